@@ -1,0 +1,4 @@
+// Piles of hosts, run on examples.
+
+#[cfg(test)]
+mod tests;

@@ -1,0 +1,3 @@
+pub mod Entering
+pub mod Grants
+pub mod Same

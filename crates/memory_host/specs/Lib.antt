@@ -1,0 +1,4 @@
+pub mod Blobs
+pub mod Held
+pub mod Memory
+pub mod Queue

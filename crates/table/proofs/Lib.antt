@@ -1,0 +1,10 @@
+pub mod Orders
+pub mod Places
+pub mod Ends
+pub mod Edits
+pub mod Laws
+pub mod Filters
+pub mod Between
+pub mod Pairs
+pub mod Slides
+pub mod Entries

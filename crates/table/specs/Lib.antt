@@ -1,0 +1,5 @@
+pub mod Order
+pub mod Rows
+pub mod Ranges
+pub mod Held
+pub mod Promises
