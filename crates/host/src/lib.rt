@@ -1,13 +1,9 @@
 // What holds the log file and the blobs, by what it answers.
-mod either;
 mod fail;
 mod host;
 mod request;
 mod take;
 
-pub use either::EitherHost;
-pub use either::EitherHostHost;
-pub use either::EitherHostTakeRequest;
 pub use fail::FailLayer;
 pub use fail::FailLayerHost;
 pub use fail::FailLayerTakeRequest;

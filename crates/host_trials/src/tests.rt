@@ -1,7 +1,4 @@
 // Hosts and piles of fail layers over them, on examples.
-use host::EitherHost;
-use host::EitherHostHost;
-use host::EitherHostTakeRequest;
 use host::FailLayer;
 use host::FailLayerHost;
 use host::FailLayerTakeRequest;
@@ -15,7 +12,6 @@ use host::RequestPartialEq;
 use host::TakeRequest;
 use memory_host::Blob;
 use memory_host::BlobPartialEq;
-use memory_host::EitherHostHeldBlobs;
 use memory_host::FailLayerHeldBlobs;
 use memory_host::HeldBlobs;
 use memory_host::MemoryHost;
@@ -28,10 +24,8 @@ use memory_host::QueueHostHost;
 use memory_host::QueueHostTakeRequest;
 use std::test::*;
 
-type Bottom = EitherHost<MemoryHost, QueueHost>;
-
 // Three layers over a bottom, the topmost first.
-fn pile(passes: [u64; 3], bottom: Bottom) -> FailLayer<FailLayer<FailLayer<Bottom>>> {
+fn pile<H>(passes: [u64; 3], bottom: H) -> FailLayer<FailLayer<FailLayer<H>>> {
     let lowest = FailLayer::new(passes[2], bottom);
     FailLayer::new(passes[0], FailLayer::new(passes[1], lowest))
 }
@@ -39,7 +33,7 @@ fn pile(passes: [u64; 3], bottom: Bottom) -> FailLayer<FailLayer<FailLayer<Botto
 #[test]
 fn each_layer_refuses_once(rt: LibcRuntime) -> Result<(), Fail> {
     let memory = MemoryHost::new(rt.alloc(), 512, 100, &[5])?;
-    let mut host = pile([3, 1, 0], EitherHost::One(memory));
+    let mut host = pile([3, 1, 0], memory);
     let answers = [
         host.cut(0),
         host.cut(0),
@@ -70,7 +64,7 @@ fn cutting(layer: u8) -> HostFault {
 #[test]
 fn faults_count_the_layers_above(rt: LibcRuntime) -> Result<(), Fail> {
     let queue = QueueHost::new(rt.alloc(), 256, 0, &[-7])?;
-    let mut host = pile([70, 0, 0], EitherHost::Other(queue));
+    let mut host = pile([70, 0, 0], queue);
     let early = [host.remove(-7), host.remove(-7)];
     for offset in 0..64u64 {
         let _ = host.cut(offset);

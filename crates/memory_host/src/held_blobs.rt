@@ -3,8 +3,6 @@ ghost use mathlib.Core.Path.{_≡_};
 ghost use lib.IntN.{ℤ};
 ghost use Rattle.memory_host.specs.Blobs.{Ascending, in-rows};
 use crate::blob::Blob;
-use host::EitherHost;
-use host::EitherHostHost;
 use host::FailLayer;
 use host::FailLayerHost;
 use host::Host;
@@ -20,14 +18,5 @@ pub trait HeldBlobs: Host {
 pub impl<H: HeldBlobs> HeldBlobs for FailLayer<H> as FailLayerHeldBlobs {
     fn held_blobs(&self) -> &[Blob] {
         self.below().held_blobs()
-    }
-}
-
-pub impl<P: HeldBlobs, Q: HeldBlobs> HeldBlobs for EitherHost<P, Q> as EitherHostHeldBlobs {
-    fn held_blobs(&self) -> &[Blob] {
-        match self {
-            EitherHost::One(host) => host.held_blobs(),
-            EitherHost::Other(host) => host.held_blobs(),
-        }
     }
 }

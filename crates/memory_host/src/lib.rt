@@ -10,7 +10,6 @@ pub use blob::BlobDebug;
 pub use blob::BlobEq;
 pub use blob::BlobPartialEq;
 pub use blob::BlobRow;
-pub use held_blobs::EitherHostHeldBlobs;
 pub use held_blobs::FailLayerHeldBlobs;
 pub use held_blobs::HeldBlobs;
 pub use memory::MemoryHost;

@@ -11,14 +11,11 @@ use crate::stop::StopFromRefused;
 use crate::transcript::write_answer;
 use crate::transcript::write_books;
 use crate::transcript::write_taken;
-use host::EitherHost;
-use host::EitherHostTakeRequest;
 use host::FailLayer;
 use host::FailLayerTakeRequest;
 use host::HostFault;
 use host::Request;
 use host::TakeRequest;
-use memory_host::EitherHostHeldBlobs;
 use memory_host::FailLayerHeldBlobs;
 use memory_host::HeldBlobs;
 use memory_host::MemoryHost;
@@ -27,33 +24,9 @@ use memory_host::MemoryHostTakeRequest;
 use memory_host::QueueHost;
 use memory_host::QueueHostHeldBlobs;
 use memory_host::QueueHostTakeRequest;
-use std::alloc::Global;
-
-// The host below all layers.
-type Bottom = EitherHost<MemoryHost, QueueHost>;
 
 // How many fail layers there may be.
 const MOST_LAYERS: usize = 4;
-
-fn memory(heap: Global, setup: &Setup) -> Result<Bottom, Stop> {
-    let host = MemoryHost::new(
-        heap,
-        setup.segment_size,
-        setup.length,
-        setup.blobs.as_slice(),
-    )?;
-    Ok(EitherHost::One(host))
-}
-
-fn queue(heap: Global, setup: &Setup) -> Result<Bottom, Stop> {
-    let host = QueueHost::new(
-        heap,
-        setup.segment_size,
-        setup.length,
-        setup.blobs.as_slice(),
-    )?;
-    Ok(EitherHost::Other(host))
-}
 
 fn ask<H: TakeRequest>(host: &mut H, request: Request) -> Result<(), HostFault> {
     match request {
@@ -99,10 +72,10 @@ fn act_on<H: TakeRequest + HeldBlobs + Drop>(
 }
 
 // The fail layers of a run, the lowest first, and the statement after them. Books that are asked for meanwhile are written.
-fn read_layers(
+fn read_layers<H: HeldBlobs>(
     rt: &LibcRuntime,
     list: &mut CallList,
-    bottom: &Bottom,
+    bottom: &H,
 ) -> Result<(Vec<u64>, Option<Statement>), Stop> {
     let mut layers = Vec::new(rt.alloc());
     for _ in 0..u64::MAX {
@@ -120,11 +93,11 @@ fn read_layers(
     Ok((layers, None))
 }
 
-// Plays one run over a bottom host.
-fn play_run(
+// Plays one run over a bottom host, and answers the statement that begins the next one.
+fn play_run<H: TakeRequest + HeldBlobs + Drop>(
     rt: &LibcRuntime,
     list: &mut CallList,
-    bottom: Bottom,
+    bottom: H,
 ) -> Result<Option<Statement>, Stop> {
     let (layers, first) = read_layers(rt, list, &bottom)?;
     match layers.as_slice() {
@@ -152,18 +125,42 @@ fn play_run(
     }
 }
 
+fn play_memory(
+    rt: &LibcRuntime,
+    list: &mut CallList,
+    setup: &Setup,
+) -> Result<Option<Statement>, Stop> {
+    let blobs = setup.blobs.as_slice();
+    let host = MemoryHost::new(rt.alloc(), setup.segment_size, setup.length, blobs)?;
+    play_run(rt, list, host)
+}
+
+fn play_queue(
+    rt: &LibcRuntime,
+    list: &mut CallList,
+    setup: &Setup,
+) -> Result<Option<Statement>, Stop> {
+    let blobs = setup.blobs.as_slice();
+    let host = QueueHost::new(rt.alloc(), setup.segment_size, setup.length, blobs)?;
+    play_run(rt, list, host)
+}
+
 // Plays all runs of a list.
 pub(crate) fn play(rt: &LibcRuntime, list: &mut CallList) -> Result<(), Stop> {
     let mut statement = list.next_statement(rt)?;
     for number in 1..u64::MAX {
-        let bottom = match statement {
+        match statement {
             None => return Ok(()),
-            Some(Statement::Memory(setup)) => memory(rt.alloc(), &setup)?,
-            Some(Statement::Queue(setup)) => queue(rt.alloc(), &setup)?,
+            Some(Statement::Memory(setup)) => {
+                println!(rt, "run {number}")?;
+                statement = play_memory(rt, list, &setup)?;
+            }
+            Some(Statement::Queue(setup)) => {
+                println!(rt, "run {number}")?;
+                statement = play_queue(rt, list, &setup)?;
+            }
             Some(_) => return Err(Stop::Unread(Reason::NoRunYet)),
-        };
-        println!(rt, "run {number}")?;
-        statement = play_run(rt, list, bottom)?;
+        }
     }
     Ok(())
 }

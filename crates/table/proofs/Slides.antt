@@ -57,28 +57,24 @@ module _ {X : Type 0} where
       let n : length left ≡ len - 1 = ap length (sym e) ∙ simp (length-append, length-take, length-drop) (omega arith) in
       ap (take (len - 1)) f ∙ take-at left more (len - 1) n
 
-  -- the places start to end, moved behind the others
-  pub turned-out : (rows : List X) (start end : ℕ) (part new : List X) → start ≤ end → end ≤ length rows → part ≡ take (length rows - start) (drop start rows) → new ≡ drop (end - start) part ++ take (end - start) part → putMid start (length rows - start) rows new ≡ take start rows ++ (drop end rows ++ take (end - start) (drop start rows))
-  turned-out rows start end part new se el p n =
-      let q : part ≡ drop start rows = p ∙ take-rest rows start in
+  -- the places start to end of the first len, moved behind the others of those
+  pub turned-front : (rows : List X) (start end len : ℕ) (part new : List X) → start ≤ end → end ≤ len → len ≤ length rows → part ≡ take (len - start) (drop start rows) → new ≡ drop (end - start) part ++ take (end - start) part → take (len - (end - start)) (putMid start (len - start) rows new) ≡ take start (take len rows) ++ drop end (take len rows)
+  turned-front rows start end len part new se el lr p n =
+      let q : part ≡ drop start (take len rows) = p ∙ between-is rows start len in
       let m : start + (end - start) ≡ end = omega arith in
-      let moved : new ≡ drop end rows ++ take (end - start) (drop start rows) = n ∙ (λ j. drop (end - start) (q j) ++ take (end - start) (q j)) ∙ ap (λ l. l ++ take (end - start) (drop start rows)) (drop-drop (end - start) start rows ∙ ap (λ k. drop k rows) m) in
-      let ln : length new ≡ length rows - start = ap length moved ∙ simp (length-append, length-take, length-drop) (omega arith) in
-      let whole : take (length rows) (putMid start (length rows - start) rows new) ≡ take start rows ++ new = take-putMid start (length rows - start) rows new (length rows) (omega arith) (omega arith) in
-      let nothing : drop (length rows) (putMid start (length rows - start) rows new) ≡ [] = drop-putMid start (length rows - start) rows new (length rows) (omega arith) (omega arith) ln ∙ drop-all (length rows) rows (omega arith) in
-      sym (take-append-drop (length rows) (putMid start (length rows - start) rows new))
-      ∙ (λ j. whole j ++ nothing j)
-      ∙ append-nil (take start rows ++ new)
-      ∙ ap (λ l. take start rows ++ l) moved
-
-  -- and then cut off: t is the slice that was turned
-  pub turned-cut : (rows t new : List X) (start end len : ℕ) → start ≤ end → end ≤ length rows → t ≡ rows → len ≡ length rows → new ≡ take start t ++ (drop end t ++ take (end - start) (drop start t)) → take (len - (end - start)) new ≡ take start rows ++ drop end rows
-  turned-cut rows t new start end len se el f l w =
-      let long : length (take start rows ++ drop end rows) ≡ length rows - (end - start) = simp (length-append, length-take, length-drop) (omega arith) in
-      (λ i. take (l i - (end - start)) (w i))
-      ∙ (λ i. take (length rows - (end - start)) (take start (f i) ++ (drop end (f i) ++ take (end - start) (drop start (f i)))))
-      ∙ ap (take (length rows - (end - start))) (sym (append-assoc (take start rows) (drop end rows) (take (end - start) (drop start rows))))
-      ∙ take-at (take start rows ++ drop end rows) (take (end - start) (drop start rows)) (length rows - (end - start)) long
+      let lp : length part ≡ len - start = ap length p ∙ simp (length-take, length-drop) (omega arith) in
+      let ln : length new ≡ len - start = ap length n ∙ simp (length-append, length-take, length-drop) (omega arith) in
+      let rest : drop (end - start) part ≡ drop end (take len rows) = ap (drop (end - start)) q ∙ drop-drop (end - start) start (take len rows) ∙ ap (λ k. drop k (take len rows)) m in
+      let kept = take start (take len rows) ++ drop end (take len rows) in
+      let long : length kept ≡ len - (end - start) = simp (length-append, length-take, length-drop) (omega arith) in
+      let whole : take len (putMid start (len - start) rows new) ≡ kept ++ take (end - start) part =
+      take-putMid start (len - start) rows new len (omega arith) (omega arith)
+      ∙ ap (λ l. take start rows ++ l) (n ∙ ap (λ l. l ++ take (end - start) part) rest)
+      ∙ ap (λ l. l ++ (drop end (take len rows) ++ take (end - start) part)) (sym (take-take start len rows (omega arith)))
+      ∙ sym (append-assoc (take start (take len rows)) (drop end (take len rows)) (take (end - start) part)) in
+      sym (take-take (len - (end - start)) len (putMid start (len - start) rows new) (omega arith))
+      ∙ ap (take (len - (end - start))) whole
+      ∙ take-at kept (take (end - start) part) (len - (end - start)) long
 
   -- a place of one of the first rows, written over
   pub written : (rows : List X) (i len : ℕ) (row : X) → i < len → len ≤ length rows → (take len (set rows i row) ≡ set (take len rows) i row) × (drop len (set rows i row) ≡ drop len rows)

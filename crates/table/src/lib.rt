@@ -15,8 +15,6 @@ pub use owner::Full;
 pub use owner::Table;
 pub use promises::pair_promises_stand;
 pub use promises::promises_stand;
-pub use ranges::bounds;
-pub use ranges::count_below;
 pub use row::Row;
 pub use row::U64Row;
 pub use slices::insert_in;

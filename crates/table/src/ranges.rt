@@ -4,7 +4,7 @@ ghost use mathlib.Core.Bool.{true};
 ghost use mathlib.Core.List.{_++_};
 ghost use Prim.Native.Nat.{_+_, _-_, _≤_};
 ghost use lib.ListN.{length, take, drop};
-ghost use Rattle.std.specs.Of.Vec.{vec-items, vec-len, vec-cap};
+ghost use Rattle.std.specs.Of.Vec.{vec-items, vec-len};
 ghost use Rattle.table.specs.Rows.{ascending};
 ghost use Rattle.table.specs.Ranges.{between, withoutBetween, countBelow};
 use crate::Key;
@@ -12,7 +12,7 @@ use crate::Row;
 use crate::slices::search;
 
 // How many rows have keys below this one.
-pub fn count_below<R: Row>(rows: &[R], key: R::Key) -> usize
+fn count_below<R: Row>(rows: &[R], key: R::Key) -> usize
     requires { ⌜ ascending (R·Row .keyed) (Key·Key .rank) (now rows) ≡ true ⌝ }
     ensures value { λ r. ⌜ r ≡ countBelow (R·Row .keyed) (Key·Key .rank) (now (rows .entry)) key ⌝ }
     ensures within { λ r. ⌜ r ≤ length (now (rows .entry)) ⌝ }
@@ -40,7 +40,7 @@ fn span<R: Row>(rows: &[R], start: usize, from: R::Key, until: R::Key) -> (usize
 
 // The place of the first row whose key is not below `from`, and that behind the last one below `until`.
 // The rows of the range stand between them, and the others before and behind.
-pub fn bounds<R: Row>(rows: &[R], from: R::Key, until: R::Key) -> (usize, usize)
+pub(crate) fn bounds<R: Row>(rows: &[R], from: R::Key, until: R::Key) -> (usize, usize)
     requires { ⌜ ascending (R·Row .keyed) (Key·Key .rank) (now rows) ≡ true ⌝ }
     ensures value { λ r. ⌜ r ≡ (countBelow (R·Row .keyed) (Key·Key .rank) (now (rows .entry)) from, countBelow (R·Row .keyed) (Key·Key .rank) (now (rows .entry)) from + length (between (R·Row .keyed) (Key·Key .rank) (now (rows .entry)) from until)) ⌝ }
     ensures within { λ r. ⌜ (r .0 ≤ r .1) × (r .1 ≤ length (now (rows .entry))) ⌝ }
@@ -51,23 +51,19 @@ pub fn bounds<R: Row>(rows: &[R], from: R::Key, until: R::Key) -> (usize, usize)
     span(rows, count_below(rows, from), from, until)
 }
 
-// Moves the places from `start` to `end` behind the others.
-fn turn_out<T: Copy>(rows: &mut [T], start: usize, end: usize)
-    requires { ⌜ (start ≤ end) × (end ≤ length (now rows)) ⌝ }
-    ensures { λ _. ⌜ now (rows .exit) ≡ take start (now (rows .entry)) ++ (drop end (now (rows .entry)) ++ take (end - start) (drop start (now (rows .entry)))) ⌝ }
+// Moves the rows from `start` to `end` behind the others of the first `len`.
+fn turn_out<T: Copy>(rows: &mut [T], len: usize, start: usize, end: usize)
+    requires { ⌜ (start ≤ end) × (end ≤ len) × (len ≤ length (now rows)) ⌝ }
+    ensures { λ _. ⌜ take (len - (end - start)) (now (rows .exit)) ≡ take start (take len (now (rows .entry))) ++ drop end (take len (now (rows .entry))) ⌝ }
 {
-    let len = rows.len();
     rows[start..len].rotate_left(end - start);
 }
 
-// Lets the places from `start` to `end` go.
-pub(crate) fn cut_out<T: Copy>(rows: &mut Vec<T>, start: usize, end: usize)
-    requires { ⌜ (start ≤ end) × (end ≤ vec-len (now rows)) ⌝ }
-    ensures items { λ _. ⌜ vec-items (now (rows .exit)) ≡ take start (vec-items (now (rows .entry))) ++ drop end (vec-items (now (rows .entry))) ⌝ }
-    ensures len { λ _. ⌜ vec-len (now (rows .exit)) ≤ vec-len (now (rows .entry)) ⌝ }
-    ensures capacity { λ _. ⌜ vec-cap (now (rows .exit)) ≡ vec-cap (now (rows .entry)) ⌝ }
+// The same over the places of a vector.
+pub(crate) fn cut_out<T: Copy>(places: &mut Vec<T>, len: usize, start: usize, end: usize)
+    requires { ⌜ (start ≤ end) × (end ≤ len) × (len ≤ vec-len (now places)) ⌝ }
+    ensures front { λ _. ⌜ take (len - (end - start)) (vec-items (now (places .exit))) ≡ take start (take len (vec-items (now (places .entry)))) ++ drop end (take len (vec-items (now (places .entry)))) ⌝ }
+    ensures len { λ _. ⌜ vec-len (now (places .exit)) ≡ vec-len (now (places .entry)) ⌝ }
 {
-    let len = rows.len();
-    turn_out(rows.as_mut_slice(), start, end);
-    rows.truncate(len - (end - start));
+    turn_out(places.as_mut_slice(), len, start, end);
 }

@@ -10,7 +10,7 @@ ghost use Rattle.std.specs.Options.{isSome};
 ghost use Rattle.std.specs.Results.{isOk, Cases};
 ghost use Rattle.std.specs.Vec.{listOf};
 ghost use Rattle.table.specs.Ranges.{countBelow};
-ghost use Rattle.table.specs.Rows.{ascending, place, find, insertRow, removeRow, enteredIn, laid, lastOf};
+ghost use Rattle.table.specs.Rows.{ascending, place, find, insertRow, removeRow, enteredIn, laid};
 use crate::Full;
 use crate::Key;
 use crate::Row;
@@ -41,13 +41,6 @@ pub fn search<R: Row>(rows: &[R], key: R::Key) -> Result<usize, usize>
         }
     }
     Err(low)
-}
-
-// The last row.
-pub(crate) fn last_in<T: Copy>(rows: &[T]) -> Option<T>
-    ensures { λ r. ⌜ r ≡ lastOf (now (rows .entry)) ⌝ }
-{
-    rows.last().copied()
 }
 
 // Writes over the row at i.

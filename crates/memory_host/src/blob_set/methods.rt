@@ -26,7 +26,7 @@ impl BlobSet {
         ensures rows { λ r. ⌜ made r (λ s. blobs-of s ≡ first-blobs (now (list .entry))) ⌝ }
         ensures members { λ r. ⌜ made r (λ s. (b : ℤ) → is-held (blobs-of s) b ≡ among (take 1024 (now (list .entry))) b) ⌝ }
     {
-        let table = Table::new(heap, LIMIT)?;
+        let table = Table::new(heap, LIMIT, Blob(0))?;
         let mut set = BlobSet { table };
         set.enter(&list[0..list.len().min(LIMIT)]);
         Ok(set)

@@ -2,13 +2,13 @@
 ghost use mathlib.Core.Path.{_≡_};
 ghost use mathlib.Core.Bool.{true};
 ghost use mathlib.Core.List.{[]};
-ghost use Prim.Native.Nat.{_≤_};
-ghost use lib.Dec.{eqb};
-ghost use lib.ListN.{length};
-ghost use Rattle.std.specs.Vec.{made};
+ghost use Prim.Native.Nat.{_-_, _≤_};
+ghost use lib.ListN.{length, take};
+ghost use Rattle.std.specs.Of.Vec.{vec-items, vec-len};
+ghost use Rattle.std.specs.Vec.{made, listOf};
 ghost use Rattle.std.specs.Results.{Cases};
 ghost use Rattle.std.specs.declared.option.Option.the-variants.{None};
-ghost use Rattle.table.specs.Rows.{ascending, find, insertRow, removeRow, entered, firstOf, lastOf};
+ghost use Rattle.table.specs.Rows.{ascending, find, insertRow, removeRow, entered, enteredIn, firstOf};
 ghost use Rattle.table.specs.Ranges.{between, withoutBetween};
 ghost use Rattle.table.specs.Held.{held, limitOf};
 use super::Full;
@@ -17,30 +17,66 @@ use crate::Key;
 use crate::Row;
 use crate::ranges::bounds;
 use crate::ranges::cut_out;
-use crate::slices::last_in;
+use crate::slices::insert_in;
+use crate::slices::remove_in;
 use crate::slices::search;
 use std::alloc::AllocError;
 use std::alloc::Global;
 
+// So many places, each with this row.
+fn fill<T: Copy>(heap: Global, row: T, count: usize) -> Result<Vec<T>, AllocError>
+    ensures { λ r. ⌜ made r (λ v. vec-len v ≡ count) ⌝ }
+{
+    let mut places = Vec::with_capacity(heap, count)?;
+    for _i in 0..count {
+        places.push_reserved(row);
+    }
+    Ok(places)
+}
+
+// The slice's edits, over the places of a vector.
+fn put_in<R: Row>(places: &mut Vec<R>, len: usize, row: R) -> Result<usize, Full>
+    requires below { ⌜ len ≤ vec-len (now places) ⌝ }
+    requires order { ⌜ ascending (R·Row .keyed) (Key·Key .rank) (take len (vec-items (now places))) ≡ true ⌝ }
+    ensures order { λ _. ⌜ ascending (R·Row .keyed) (Key·Key .rank) (insertRow (R·Row .keyed) (Key·Key .rank) (take len (vec-items (now (places .entry)))) row) ≡ true ⌝ }
+    ensures after { λ r. ⌜ (r, vec-items (now (places .exit))) ≡ enteredIn (R·Row .keyed) (Key·Key .rank) (vec-items (now (places .entry))) len row ⌝ }
+    ensures cases { λ r. ⌜ Cases r (λ n. (n ≤ vec-len (now (places .entry))) × (take n (vec-items (now (places .exit))) ≡ insertRow (R·Row .keyed) (Key·Key .rank) (take len (vec-items (now (places .entry)))) row)) (λ _. vec-items (now (places .exit)) ≡ vec-items (now (places .entry))) ⌝ }
+    ensures len { λ _. ⌜ vec-len (now (places .exit)) ≡ vec-len (now (places .entry)) ⌝ }
+{
+    insert_in(places.as_mut_slice(), len, row)
+}
+
+fn take_out<R: Row>(places: &mut Vec<R>, len: usize, key: R::Key) -> Option<R>
+    requires below { ⌜ len ≤ vec-len (now places) ⌝ }
+    requires order { ⌜ ascending (R·Row .keyed) (Key·Key .rank) (take len (vec-items (now places))) ≡ true ⌝ }
+    ensures order { λ _. ⌜ ascending (R·Row .keyed) (Key·Key .rank) (removeRow (R·Row .keyed) (Key·Key .rank) (take len (vec-items (now (places .entry)))) key) ≡ true ⌝ }
+    ensures value { λ r. ⌜ r ≡ find (R·Row .keyed) (Key·Key .rank) (take len (vec-items (now (places .entry)))) key ⌝ }
+    ensures front { λ r. ⌜ take (len - length (listOf r)) (vec-items (now (places .exit))) ≡ removeRow (R·Row .keyed) (Key·Key .rank) (take len (vec-items (now (places .entry)))) key ⌝ }
+    ensures fewer { λ r. ⌜ length (listOf r) ≤ len ⌝ }
+    ensures len { λ _. ⌜ vec-len (now (places .exit)) ≡ vec-len (now (places .entry)) ⌝ }
+{
+    remove_in(places.as_mut_slice(), len, key)
+}
+
 impl<R: Row> Table<R> {
-    // A table with room for as many rows as the limit says.
-    pub fn new(heap: Global, limit: usize) -> Result<Table<R>, AllocError>
+    // A table for as many rows as the limit says; the blank one fills the places without a row.
+    pub fn new(heap: Global, limit: usize, blank: R) -> Result<Table<R>, AllocError>
         ensures { λ r. ⌜ made r (λ t. (held t ≡ []) × (limitOf t ≡ limit)) ⌝ }
     {
-        let rows = Vec::with_capacity(heap, limit)?;
-        Ok(Table { rows, limit })
+        let places = fill(heap, blank, limit)?;
+        Ok(Table { places, len: 0 })
     }
 
     pub fn len(&self) -> usize
         ensures { λ r. ⌜ (r ≡ length (held (now (self .entry)))) × (r ≤ limitOf (now (self .entry))) ⌝ }
     {
-        self.rows.len()
+        self.rows().len()
     }
 
     pub fn rows(&self) -> &[R]
         ensures { λ r. ⌜ now r ≡ held (now (self .entry)) ⌝ }
     {
-        self.rows.as_slice()
+        self.places.as_slice().split_at(self.len).0
     }
 
     // The least row.
@@ -48,13 +84,6 @@ impl<R: Row> Table<R> {
         ensures { λ r. ⌜ r ≡ firstOf (held (now (self .entry))) ⌝ }
     {
         self.rows().first().copied()
-    }
-
-    // The greatest row.
-    pub fn last(&self) -> Option<R>
-        ensures { λ r. ⌜ r ≡ lastOf (held (now (self .entry))) ⌝ }
-    {
-        last_in(self.rows())
     }
 
     // The row with this key.
@@ -69,19 +98,12 @@ impl<R: Row> Table<R> {
         }
     }
 
-    // Whether there are as many rows as there may be.
-    pub fn is_full(&self) -> bool
-        ensures { λ r. ⌜ r ≡ eqb (length (held (now (self .entry)))) (limitOf (now (self .entry))) ⌝ }
-    {
-        self.len() == self.limit
-    }
-
     // Lets all rows go.
     pub fn clear(&mut self)
         ensures limit { λ _. ⌜ limitOf (now (self .exit)) ≡ limitOf (now (self .entry)) ⌝ }
         ensures rows { λ _. ⌜ held (now (self .exit)) ≡ [] ⌝ }
     {
-        self.rows.clear();
+        self.len = 0;
     }
 
     // Puts the row in its place, over the one that has its key.
@@ -92,18 +114,12 @@ impl<R: Row> Table<R> {
         ensures after { λ r. ⌜ (r, held (now (self .exit))) ≡ entered (R·Row .keyed) (Key·Key .rank) (limitOf (now (self .entry))) (held (now (self .entry))) row ⌝ }
         ensures cases { λ r. ⌜ Cases r (λ _. held (now (self .exit)) ≡ insertRow (R·Row .keyed) (Key·Key .rank) (held (now (self .entry))) row) (λ _. (held (now (self .exit)) ≡ held (now (self .entry))) × (length (held (now (self .entry))) ≡ limitOf (now (self .entry))) × (find (R·Row .keyed) (Key·Key .rank) (held (now (self .entry))) (R·Row .keyed row) ≡ None)) ⌝ }
     {
-        match search(self.rows(), row.key()) {
-            Ok(i) => {
-                self.rows[i] = row;
+        match put_in(&mut self.places, self.len, row) {
+            Ok(len) => {
+                self.len = len;
                 Ok(())
             }
-            Err(i) => {
-                if self.is_full() {
-                    return Err(Full);
-                }
-                let _ = self.rows.insert(i, row);
-                Ok(())
-            }
+            Err(full) => Err(full),
         }
     }
 
@@ -115,9 +131,12 @@ impl<R: Row> Table<R> {
         ensures value { λ r. ⌜ r ≡ find (R·Row .keyed) (Key·Key .rank) (held (now (self .entry))) key ⌝ }
         ensures rows { λ _. ⌜ held (now (self .exit)) ≡ removeRow (R·Row .keyed) (Key·Key .rank) (held (now (self .entry))) key ⌝ }
     {
-        match search(self.rows(), key) {
-            Ok(i) => Some(self.rows.remove(i)),
-            Err(_) => None,
+        match take_out(&mut self.places, self.len, key) {
+            Some(row) => {
+                self.len -= 1;
+                Some(row)
+            }
+            None => None,
         }
     }
 
@@ -139,6 +158,7 @@ impl<R: Row> Table<R> {
         ensures rows { λ _. ⌜ held (now (self .exit)) ≡ withoutBetween (R·Row .keyed) (Key·Key .rank) (held (now (self .entry))) from until ⌝ }
     {
         let (start, end) = bounds(self.rows(), from, until);
-        cut_out(&mut self.rows, start, end);
+        cut_out(&mut self.places, self.len, start, end);
+        self.len -= end - start;
     }
 }
