@@ -1,0 +1,15 @@
+pub mod Refusals
+pub mod Books
+pub mod Pages
+pub mod Freeing
+pub mod Cleaning
+pub mod Links
+pub mod Replacing
+pub mod Stabilizing
+pub mod HandingOut
+pub mod Starting
+pub mod Calls
+pub mod Runs
+pub mod Recount
+pub mod Safety
+pub mod Worked
