@@ -13,3 +13,4 @@ pub mod Runs
 pub mod Recount
 pub mod Safety
 pub mod Worked
+pub mod Refused
