@@ -49,7 +49,7 @@ pub struct FaultRow {
     pub layer: u8,
 }
 
-pub impl Row for OrderingRow as OrderingRowRow {
+pub impl Row for OrderingRow as OrderingByLsn {
     type Key = i64;
 
     ghost keyed = { ordering-key };
@@ -59,7 +59,7 @@ pub impl Row for OrderingRow as OrderingRowRow {
     }
 }
 
-pub impl Row for PageRow as PageRowRow {
+pub impl Row for PageRow as PageByPlace {
     type Key = (u64, u64);
 
     ghost keyed = { page-key };
@@ -69,7 +69,7 @@ pub impl Row for PageRow as PageRowRow {
     }
 }
 
-pub impl Row for BlobRow as BlobRowRow {
+pub impl Row for BlobRow as BlobByPlace {
     type Key = (u64, i64);
 
     ghost keyed = { blob-key };
@@ -79,7 +79,7 @@ pub impl Row for BlobRow as BlobRowRow {
     }
 }
 
-pub impl Row for FreeableRow as FreeableRowRow {
+pub impl Row for FreeableRow as FreeableByPlace {
     type Key = (u64, i64);
 
     ghost keyed = { freeable-key };
@@ -89,7 +89,7 @@ pub impl Row for FreeableRow as FreeableRowRow {
     }
 }
 
-pub impl Row for FaultRow as FaultRowRow {
+pub impl Row for FaultRow as FaultByOffset {
     type Key = u64;
 
     ghost keyed = { fault-key };
