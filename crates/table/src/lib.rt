@@ -1,9 +1,7 @@
-// An ordered table for every kind of row: search by halves, edits that keep the order, and ranges of rows.
+// An ordered table for every kind of row: search by halves, and edits that keep the order.
 
 mod key;
 mod owner;
-mod promises;
-mod ranges;
 mod row;
 mod slices;
 
@@ -13,8 +11,6 @@ pub use key::PairKey;
 pub use key::U64Key;
 pub use owner::Full;
 pub use owner::Table;
-pub use promises::pair_promises_stand;
-pub use promises::promises_stand;
 pub use row::Row;
 pub use row::U64Row;
 pub use slices::insert_in;

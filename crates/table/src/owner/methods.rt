@@ -1,22 +1,19 @@
 // What a table does. Its rows ascend by key before and after.
 ghost use mathlib.Core.Path.{_≡_};
 ghost use mathlib.Core.Bool.{true};
-ghost use mathlib.Core.List.{[]};
+ghost use mathlib.Core.List.{[], _++_};
 ghost use Prim.Native.Nat.{_-_, _≤_};
-ghost use lib.ListN.{length, take};
+ghost use lib.ListN.{length, take, drop};
 ghost use Rattle.std.specs.Of.Vec.{vec-items, vec-len};
 ghost use Rattle.std.specs.Vec.{made, listOf};
 ghost use Rattle.std.specs.Results.{Cases};
 ghost use Rattle.std.specs.declared.option.Option.the-variants.{None};
 ghost use Rattle.table.specs.Rows.{ascending, find, insertRow, removeRow, entered, enteredIn, firstOf};
-ghost use Rattle.table.specs.Ranges.{between, withoutBetween};
 ghost use Rattle.table.specs.Held.{held, limitOf};
 use super::Full;
 use super::Table;
 use crate::Key;
 use crate::Row;
-use crate::ranges::bounds;
-use crate::ranges::cut_out;
 use crate::slices::insert_in;
 use crate::slices::remove_in;
 use crate::slices::search;
@@ -56,6 +53,23 @@ fn take_out<R: Row>(places: &mut Vec<R>, len: usize, key: R::Key) -> Option<R>
     ensures len { λ _. ⌜ vec-len (now (places .exit)) ≡ vec-len (now (places .entry)) ⌝ }
 {
     remove_in(places.as_mut_slice(), len, key)
+}
+
+// Moves the rows from `start` to `end` behind the others of the first `len`.
+fn turn_out<T: Copy>(rows: &mut [T], len: usize, start: usize, end: usize)
+    requires { ⌜ (start ≤ end) × (end ≤ len) × (len ≤ length (now rows)) ⌝ }
+    ensures { λ _. ⌜ take (len - (end - start)) (now (rows .exit)) ≡ take start (take len (now (rows .entry))) ++ drop end (take len (now (rows .entry))) ⌝ }
+{
+    rows[start..len].rotate_left(end - start);
+}
+
+// The same over the places of a vector.
+fn cut_out<T: Copy>(places: &mut Vec<T>, len: usize, start: usize, end: usize)
+    requires { ⌜ (start ≤ end) × (end ≤ len) × (len ≤ vec-len (now places)) ⌝ }
+    ensures front { λ _. ⌜ take (len - (end - start)) (vec-items (now (places .exit))) ≡ take start (take len (vec-items (now (places .entry)))) ++ drop end (take len (vec-items (now (places .entry)))) ⌝ }
+    ensures len { λ _. ⌜ vec-len (now (places .exit)) ≡ vec-len (now (places .entry)) ⌝ }
+{
+    turn_out(places.as_mut_slice(), len, start, end);
 }
 
 impl<R: Row> Table<R> {
@@ -140,24 +154,12 @@ impl<R: Row> Table<R> {
         }
     }
 
-    // The rows with keys from `from` up to `until`, without that one.
-    pub fn between(&self, from: R::Key, until: R::Key) -> &[R]
-        requires { ⌜ ascending (R·Row .keyed) (Key·Key .rank) (held (now self)) ≡ true ⌝ }
-        ensures { λ r. ⌜ now r ≡ between (R·Row .keyed) (Key·Key .rank) (held (now (self .entry))) from until ⌝ }
-    {
-        let rows = self.rows();
-        let (start, end) = bounds(rows, from, until);
-        &rows[start..end]
-    }
-
-    // Lets the rows go that have keys from `from` up to `until`, without that one.
-    pub fn remove_between(&mut self, from: R::Key, until: R::Key)
-        requires { ⌜ ascending (R·Row .keyed) (Key·Key .rank) (held (now self)) ≡ true ⌝ }
-        ensures order { λ _. ⌜ ascending (R·Row .keyed) (Key·Key .rank) (held (now (self .exit))) ≡ true ⌝ }
+    // Lets the rows go from place `start` up to `end`.
+    pub fn remove_part(&mut self, start: usize, end: usize)
+        requires { ⌜ (start ≤ end) × (end ≤ length (held (now self))) ⌝ }
         ensures limit { λ _. ⌜ limitOf (now (self .exit)) ≡ limitOf (now (self .entry)) ⌝ }
-        ensures rows { λ _. ⌜ held (now (self .exit)) ≡ withoutBetween (R·Row .keyed) (Key·Key .rank) (held (now (self .entry))) from until ⌝ }
+        ensures rows { λ _. ⌜ held (now (self .exit)) ≡ take start (held (now (self .entry))) ++ drop end (held (now (self .entry))) ⌝ }
     {
-        let (start, end) = bounds(self.rows(), from, until);
         cut_out(&mut self.places, self.len, start, end);
         self.len -= end - start;
     }

@@ -7,7 +7,7 @@ use lib.ListN.{length, take, drop}
 use Rattle.std.specs.Changed.{refilled}
 use Rattle.std.specs.Of.Vec.{vec-len}
 use Rattle.std.proofs.shelf.Lists.{refilled-is}
-use Rattle.table.proofs.ranges.cut_out.Needs as need
+use Rattle.table.proofs.owner.methods.cut_out.Needs as need
 
 pub returns : need.returns
 returns g c =

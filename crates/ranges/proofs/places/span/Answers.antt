@@ -4,10 +4,10 @@ use Prim.Native.Nat.{ℕ, _+_}
 use native.Mathlib.Omega.{arith}
 use lib.ListN.{length}
 use Rattle.std.proofs.shelf.Lists.{take-rest}
 use Rattle.table.specs.Ranges.{between, countBelow}
 use Rattle.table.proofs.Filters.{ascending-drop}
 use Rattle.table.proofs.Between.{bounds-are, range-most, part-lent, rest-left, without-ascends}
-use Rattle.table.proofs.ranges.span.Needs as need
+use Rattle.ranges.proofs.places.span.Needs as need
 
 pub count-below-count-requires : need.count-below-count-requires
 count-below-count-requires g c κs = rw (take-rest (c .args .rows .now) (c .args .start)) (ascending-drop (g .R·Row .keyed) (g .Key·Key .lawful) (c .args .start) (c .args .rows .now) (c .pre .order))

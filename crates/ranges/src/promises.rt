@@ -1,7 +1,7 @@
 // What the table promises of its edits and ranges, at every kind of row.
 ghost use Rattle.table.specs.Promises.{Promises, PairPromises, NumberPromises};
-use crate::Key;
-use crate::Row;
+use table::Key;
+use table::Row;
 
 pub fn promises_stand<R: Row>() -> u8
     ensures { λ _. ⌜ Promises (R·Row .keyed) (Key·Key .rank) ⌝ }

@@ -1,8 +1,8 @@
 -- Each promise is a lemma over any lawful order.
 use Rattle.table.proofs.Laws.{ascending-insert, ascending-remove, find-insert-same, find-insert-other, find-remove-same, find-remove-other, length-insert-new, length-insert-old, length-remove, remove-absent, find-key, find-has, has-find, same-members}
 use Rattle.table.proofs.Between as ranges
 use Rattle.table.proofs.Ends as ends
-use Rattle.table.proofs.promises.promises_stand.Needs as need
+use Rattle.ranges.proofs.promises.promises_stand.Needs as need
 
 pub returns : need.returns
 returns g c =

@@ -1,6 +1,6 @@
 -- Each promise is a lemma over any two lawful orders.
 use Rattle.table.proofs.Pairs as lemmas
-use Rattle.table.proofs.promises.pair_promises_stand.Needs as need
+use Rattle.ranges.proofs.promises.pair_promises_stand.Needs as need
 
 pub returns : need.returns
 returns g c = record {

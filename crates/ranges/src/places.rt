@@ -1,18 +1,17 @@
-// Ranges over lent slices of rows that ascend.
+// The places of a range among rows that ascend.
 ghost use mathlib.Core.Path.{_≡_};
 ghost use mathlib.Core.Bool.{true};
 ghost use mathlib.Core.List.{_++_};
 ghost use Prim.Native.Nat.{_+_, _-_, _≤_};
 ghost use lib.ListN.{length, take, drop};
-ghost use Rattle.std.specs.Of.Vec.{vec-items, vec-len};
 ghost use Rattle.table.specs.Rows.{ascending};
 ghost use Rattle.table.specs.Ranges.{between, withoutBetween, countBelow};
-use crate::Key;
-use crate::Row;
-use crate::slices::search;
+use table::Key;
+use table::Row;
+use table::search;
 
 // How many rows have keys below this one.
-fn count_below<R: Row>(rows: &[R], key: R::Key) -> usize
+pub fn count_below<R: Row>(rows: &[R], key: R::Key) -> usize
     requires { ⌜ ascending (R·Row .keyed) (Key·Key .rank) (now rows) ≡ true ⌝ }
     ensures value { λ r. ⌜ r ≡ countBelow (R·Row .keyed) (Key·Key .rank) (now (rows .entry)) key ⌝ }
     ensures within { λ r. ⌜ r ≤ length (now (rows .entry)) ⌝ }
@@ -40,7 +39,7 @@ fn span<R: Row>(rows: &[R], start: usize, from: R::Key, until: R::Key) -> (usize
 
 // The place of the first row whose key is not below `from`, and that behind the last one below `until`.
 // The rows of the range stand between them, and the others before and behind.
-pub(crate) fn bounds<R: Row>(rows: &[R], from: R::Key, until: R::Key) -> (usize, usize)
+pub fn bounds<R: Row>(rows: &[R], from: R::Key, until: R::Key) -> (usize, usize)
     requires { ⌜ ascending (R·Row .keyed) (Key·Key .rank) (now rows) ≡ true ⌝ }
     ensures value { λ r. ⌜ r ≡ (countBelow (R·Row .keyed) (Key·Key .rank) (now (rows .entry)) from, countBelow (R·Row .keyed) (Key·Key .rank) (now (rows .entry)) from + length (between (R·Row .keyed) (Key·Key .rank) (now (rows .entry)) from until)) ⌝ }
     ensures within { λ r. ⌜ (r .0 ≤ r .1) × (r .1 ≤ length (now (rows .entry))) ⌝ }
@@ -49,21 +48,4 @@ pub(crate) fn bounds<R: Row>(rows: &[R], from: R::Key, until: R::Key) -> (usize,
     ensures rest_ascends { λ _. ⌜ ascending (R·Row .keyed) (Key·Key .rank) (withoutBetween (R·Row .keyed) (Key·Key .rank) (now (rows .entry)) from until) ≡ true ⌝ }
 {
     span(rows, count_below(rows, from), from, until)
-}
-
-// Moves the rows from `start` to `end` behind the others of the first `len`.
-fn turn_out<T: Copy>(rows: &mut [T], len: usize, start: usize, end: usize)
-    requires { ⌜ (start ≤ end) × (end ≤ len) × (len ≤ length (now rows)) ⌝ }
-    ensures { λ _. ⌜ take (len - (end - start)) (now (rows .exit)) ≡ take start (take len (now (rows .entry))) ++ drop end (take len (now (rows .entry))) ⌝ }
-{
-    rows[start..len].rotate_left(end - start);
-}
-
-// The same over the places of a vector.
-pub(crate) fn cut_out<T: Copy>(places: &mut Vec<T>, len: usize, start: usize, end: usize)
-    requires { ⌜ (start ≤ end) × (end ≤ len) × (len ≤ vec-len (now places)) ⌝ }
-    ensures front { λ _. ⌜ take (len - (end - start)) (vec-items (now (places .exit))) ≡ take start (take len (vec-items (now (places .entry)))) ++ drop end (take len (vec-items (now (places .entry)))) ⌝ }
-    ensures len { λ _. ⌜ vec-len (now (places .exit)) ≡ vec-len (now (places .entry)) ⌝ }
-{
-    turn_out(places.as_mut_slice(), len, start, end);
 }
