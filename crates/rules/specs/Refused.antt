@@ -1,6 +1,6 @@
 -- Each refusal comes, and in the order of the checks (docs/RULES.md, section 12). S = 256. In each run some calls are accepted, and then each call
--- is refused. A comment gives the number of the refusal and, after "before", a later check of that call which fails too; mostly the next call
--- is the same with the first fault mended.
+-- is refused. A comment gives the number of the refusal and, after "before", the next check of that call's order that can fail with it and does;
+-- mostly the call after is the same with the first fault mended.
 use mathlib.Core.Path.{_≡_}
 use mathlib.Core.List.{List, [], _∷_, _++_, map}
 use mathlib.Core.Bool.{cond}
@@ -92,10 +92,10 @@ abbrev pub tens-from : ℕ → ℕ → List PageEntry
 tens-from at zero = []
 tens-from at (suc n) = entries at 10 ∷ tens-from (at + 10) n
 
--- k rows from row i on, all at LSN 0: page n lies in segments 246 − n to 255 − n
+-- k rows from row i on, all at LSN 0: page n lies in segments 204 − n to 213 − n
 abbrev pub rows-from : ℕ → ℕ → List SnapshotRow
 rows-from i zero = []
-rows-from i (suc k) = row (cond (eqb (i % 10) 0) 0 1) 0 ((246 + i % 10 - i / 10) * 256) 0 ∷ rows-from (suc i) k
+rows-from i (suc k) = row (cond (eqb (i % 10) 0) 0 1) 0 ((204 + i % 10 - i / 10) * 256) 0 ∷ rows-from (suc i) k
 
 -- ---- the runs
 -- Segment 0 is Inactive: page 1 has left, page 2 lies there with 200 bytes. Segments 1 and 2 are Active at 256 and 512. Page 1 lies in segment 1
@@ -132,14 +132,18 @@ links-refused =
     ∷ []
     )
 
--- 18, before 7
-abbrev pub rows-refused : Run
-rows-refused = over 65536 None [] ((Start (plan 32 None None (tens-from 0 205) (rows-from 0 2050)), no.PageRowsFull) ∷ [])
+-- 17 for the size of a row, before 18; and 18, before 7
+abbrev pub row-too-large : Run
+row-too-large = over 54784 None [] ((Start (plan 32 None None (tens-from 0 205) (rows-from 0 2048 ++ replicate 2 (row 1 0 2048 huge))), no.TooLarge) ∷ [])
+
+abbrev pub rows-too-many : Run
+rows-too-many = over 54784 None [] ((Start (plan 32 None None (tens-from 0 205) (rows-from 0 2050)), no.PageRowsFull) ∷ [])
 
 abbrev pub refusal-cases : List Run
 refusal-cases =
     links-refused
-    ∷ rows-refused
+    ∷ row-too-large
+    ∷ rows-too-many
     -- before a start each other call is 28, before 12
     ∷ over 0 None [] (
     (Link 1 (info (negsuc 0) 0 1), no.OutOfTurn)
@@ -170,18 +174,20 @@ refusal-cases =
     ∷ (Start (plan 32 None None (entries 0 3 ∷ []) (row 0 0 0 0 ∷ row 1 256 0 0 ∷ row 1 0 65536 0 ∷ [])), no.RowBase)
     -- 6, before 17 for the size
     ∷ (Start (plan 32 None None (entries 0 2 ∷ []) (row 0 0 0 0 ∷ row 1 256 0 huge ∷ [])), no.RowBase)
-    -- 17 for the size, before 7
-    ∷ (Start (plan 32 None None (entries 0 2 ∷ []) (row 0 0 256 0 ∷ row 1 0 0 huge ∷ [])), no.TooLarge)
+    -- 17 for the total, before 7
+    ∷ (Start (plan 32 None None (entries 0 258 ∷ []) (row 0 0 256 0 ∷ (replicate 256 (row 1 0 0 4294967295) ++ (row 1 0 0 257 ∷ [])))), no.TooLarge)
     ∷ []
     )
     -- start, over a file of three segments and a host that refuses its first request
     ∷ over 768 (Some 0) [] (
     -- 7, before 25
     (Start (plan 32 None None (entries 0 2 ∷ []) (row 0 0 256 0 ∷ row 1 0 0 0 ∷ [])), no.SameLsn)
-    -- 25: segment 2 is to be filled
+    -- 25 for the fill of segment 2
     ∷ (Start (plan 32 None None (entries 0 2 ∷ []) (row 0 256 256 0 ∷ row 1 0 0 0 ∷ [])), no.Host (fault.Fill 512 9 0))
     ∷ []
     )
+    -- start, over a host that refuses its second request: 25 for the cut of segment 2
+    ∷ over 768 (Some 1) [] ((Start (plan 32 None (Some 0) [] []), no.Host (fault.Cut 512 9 0)) ∷ [])
     -- link
     ∷ over 0 None three-segments (
     -- 12, before 17
