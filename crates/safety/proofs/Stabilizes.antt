@@ -226,10 +226,6 @@ module _ {M : Type 0} (respond : M → Request → Answer × M) (set-up : Settin
       tests : leZ lev (w .books .stabilized) ≡ not (ltZ (w .books .stabilized) lev)
       tests = le-not lev (w .books .stabilized)
 
-      -- nothing is told
-      idle : told-stable lsn r ≡ r → (x : Answer × World (M × Log)) → x .1 ≡ w → Stabilized (told-stable lsn r) w h (x .1)
-      idle e x q = subst (λ d. Stabilized (told-stable lsn r) w h d) (sym q) (subst (λ t. Stabilized t w h w) (sym e) (record { now = h; good = g; moved = moved-refl (counted r .noted) (seg-of (w .books .segments)) h; level = sym es; size = refl; light = λ m l x. x; blobs = bl }))
-
       on : (s t : Bool) → leZ lev (w .books .stabilized) ≡ not t → ltZ (w .books .stabilized) lev ≡ t → ((blob base : ℤ) → Has (r .given) (blob, base) → leZ base (cond (not s && ltZ (r .stored) (level (r .size) lsn)) (stored-to (level (r .size) lsn)) r .stored) ≡ true → set-up .fine blob ≡ true)
           → Stabilized (cond (not s && ltZ (r .stored) (level (r .size) lsn)) (stored-to (level (r .size) lsn)) r) w h (cond (s || leZ lev (w .books .stabilized)) (Ok tt, w) (stabilized-to (recorded respond) lev w) .1)
       on true t e f k = record { now = h; good = g; moved = moved-refl (counted r .noted) (seg-of (w .books .segments)) h; level = sym es; size = refl; light = λ m l x. x; blobs = bl }
