@@ -25,3 +25,4 @@ pub mod WholeSteps
 pub mod Floors
 pub mod Shares
 pub mod ShareSteps
+pub mod Refuses

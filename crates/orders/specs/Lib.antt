@@ -6,3 +6,4 @@ pub mod Counts
 pub mod Rooms
 pub mod Spread
 pub mod Share
+pub mod Refusals

@@ -2,6 +2,7 @@
 ghost use Rattle.orders.specs.Ordered.{Ordered};
 ghost use Rattle.orders.specs.Within.{Kept-within};
 ghost use Rattle.orders.specs.Counts.{Counting, Bounded};
+ghost use Rattle.orders.specs.Refusals.{Refusals-leave-all};
 ghost use Rattle.orders.specs.Rooms.{Rooms};
 ghost use Rattle.orders.specs.Share.{Shared};
 ghost use Rattle.orders.specs.Spread.{Whole};
@@ -52,6 +53,13 @@ pub fn books_stay_spread<H: Host>() -> u8
 pub fn books_stay_shared<H: Host>() -> u8
     ensures kept { λ _. ⌜ Kept (H·Host .respond) (H·Host .slot) (H·Host .extent) Shared ⌝ }
     ensures always { λ _. ⌜ Always (H·Host .respond) (H·Host .slot) (H·Host .extent) Shared ⌝ }
+{
+    0
+}
+
+/// A call that is refused, but not by the host, leaves the books and the host as they were.
+pub fn refusals_leave_all<H: Host>() -> u8
+    ensures { λ _. ⌜ Refusals-leave-all (H·Host .respond) (H·Host .slot) (H·Host .extent) ⌝ }
 {
     0
 }
