@@ -14,3 +14,4 @@ pub mod Recount
 pub mod Safety
 pub mod Worked
 pub mod Refused
+pub mod Recounted
