@@ -1,4 +1,6 @@
 // The segment accountant: its six calls over any host, and what they keep.
+#![tactic(auto)]
+
 mod accountant;
 mod bodies;
 

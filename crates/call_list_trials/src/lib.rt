@@ -1,4 +1,5 @@
 // Lines of call lists, read on examples.
+#![tactic(auto)]
 
 #[cfg(test)]
 mod tests;

@@ -1,4 +1,6 @@
 // Call lists: the statements that runs are written down with, and how a line of text is read as one.
+#![tactic(auto)]
+
 mod call_list;
 mod fields;
 mod parts;

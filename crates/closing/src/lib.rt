@@ -1,4 +1,6 @@
 // What a stabilize does to the ledger without asking the host.
+#![tactic(auto)]
+
 mod closes;
 mod counts;
 mod levels;

@@ -1,4 +1,6 @@
 // Entries of pages: linking one, and replacing a page's old ones by a new one, on the ledger.
+#![tactic(auto)]
+
 mod links;
 mod lsns;
 mod olds;

@@ -1,4 +1,6 @@
 // What holds the log file and the blobs, by what it answers.
+#![tactic(auto)]
+
 mod fail;
 mod host;
 mod request;

@@ -1,4 +1,5 @@
 // Piles of hosts, run on examples.
+#![tactic(auto)]
 
 #[cfg(test)]
 mod tests;

@@ -1,4 +1,6 @@
 // The ledger: the books of the accountant, and the steps that change them without asking the host.
+#![tactic(auto)]
+
 mod freeing;
 mod handing_out;
 mod ledger;

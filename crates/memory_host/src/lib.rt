@@ -1,4 +1,6 @@
 // Hosts that live in memory: one that grants all, and one that writes its requests down.
+#![tactic(auto)]
+
 mod blob;
 mod blob_set;
 mod held_blobs;

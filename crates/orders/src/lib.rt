@@ -1,4 +1,6 @@
 // What the books keep, whatever is called: proved of the rules.
+#![tactic(auto)]
+
 mod keeps;
 
 pub use keeps::{

@@ -1,4 +1,6 @@
 // Plays call lists: makes the calls on an accountant and writes the transcript.
+#![tactic(auto)]
+
 mod books;
 mod gathered;
 mod player;

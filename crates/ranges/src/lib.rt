@@ -1,4 +1,6 @@
 // Ranges of a table's rows, and what the edits of a table promise.
+#![tactic(auto)]
+
 mod places;
 mod promises;
 mod table_ranges;

@@ -1,4 +1,6 @@
 // A layer over any host that writes down each request with its answer.
+#![tactic(auto)]
+
 mod log;
 mod recorder;
 

@@ -1,4 +1,6 @@
 // The recovery: all of a start before its Free segments are freed. Each function is one rule of it.
+#![tactic(auto)]
+
 mod blanks;
 mod checks;
 mod opening;

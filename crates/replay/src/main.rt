@@ -1,4 +1,6 @@
 // Plays a call list from standard input and writes its transcript to standard output.
+#![tactic(auto)]
+
 mod call_list;
 mod run;
 mod statement;

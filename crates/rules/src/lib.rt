@@ -1,4 +1,6 @@
 // The rules of the segment accountant as definitions, the runs that they are tried on, and what is promised of every run.
+#![tactic(auto)]
+
 mod refusal;
 mod theorems;
 

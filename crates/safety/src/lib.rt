@@ -1,4 +1,6 @@
 // What is promised of every run, over every lawful host.
+#![tactic(auto)]
+
 ghost use Rattle.rules.specs.Safety.{AlwaysSafe};
 
 use host::Host;

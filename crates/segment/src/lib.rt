@@ -1,4 +1,6 @@
 // The segments of the log file: their states, the rows kept of them, and the snapshot that they are recovered from.
+#![tactic(auto)]
+
 mod cache_info;
 mod changes;
 mod disk_pointer;

@@ -1,9 +1,8 @@
 // Keys: values in a total order, which the rows of a table are sorted by.
 ghost use Rattle.std.specs.Prelude.{◌≡◌};
 ghost use Rattle.std.specs.declared.cmp.Ordering.{Ordering};
-ghost use Rattle.std.specs.Cmp.{rank as rankN};
 ghost use Rattle.table.specs.Order.{Lawful, unsigned_lawful, signed_lawful, lexical, lexical_lawful};
-ghost use Rattle.std.specs.Ordering.{int_cmp};
+ghost use Rattle.std.specs.Ordering.{int_cmp, nat_cmp};
 
 use std::cmp::Ordering;
 
@@ -17,7 +16,7 @@ pub trait Key: Copy {
 }
 
 impl Key for u64 {
-    ghost rank = { rankN };
+    ghost rank = { nat_cmp };
 
     ghost lawful = { unsigned_lawful };
 

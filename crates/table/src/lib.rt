@@ -1,4 +1,5 @@
 // An ordered table for every kind of row: search by halves, and edits that keep the order.
+#![tactic(auto)]
 
 mod key;
 mod owner;

@@ -1,5 +1,7 @@
 // What the accountant does to its books over a host: segments are freed and the file is cut, segments are cleaned, old places are visited,
 // and what is stable is deactivated.
+#![tactic(auto)]
+
 mod cleaning;
 mod cutting;
 mod draining;

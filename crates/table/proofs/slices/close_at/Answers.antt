@@ -11,7 +11,7 @@ returns g c =
     let i = c.args.i in
     let len = c.args.len in
     let x = c.index-rows-i.result in
-    let h = closed rows i len x _ c.rotate-left.new.self c.requires.0 c.requires.1 c.index-rows-i.is refl c.rotate-left.ensures.after in
+    let h = closed rows i len x _ c.rotate_left.new.self c.requires.0 c.requires.1 c.index-rows-i.is refl c.rotate_left.ensures.after in
     record {
       value = c.index-rows-i.is ∙ sym (get_or-take len rows i x c.requires.0);
       rows = h;

@@ -13,5 +13,5 @@ returns g c =
     let len = c.args.len in
     let m : length (take len rows) ≡ len = simp length-take (omega arith) in
     let l : length (insert (take len rows) i c.args.row) ≡ len + 1 = length-insert (take len rows) i c.args.row (omega arith) ∙ ap (λ k. k + 1) m in
-    let h = opened rows i len c.args.row _ c.shift-in.new.part c.requires.0 c.requires.1 refl c.shift-in.ensures in
+    let h = opened rows i len c.args.row _ c.shift_in.new.part c.requires.0 c.requires.1 refl c.shift_in.ensures in
     record { rows = laid_from (insert (take len rows) i c.args.row) rows _ (len + 1) l h.0 h.1; front = h.0; long = l }

@@ -10,7 +10,7 @@ pub loop-low-preserved-in-Less : goal.loop-low-preserved-in-Less
 loop-low-preserved-in-Less g c =
     let rows = c.args.rows.now in
     let mid = c.loop-low.low + (c.loop-low.high - c.loop-low.low) / 2 in
-    (omega arith, omega arith, under_next g.R.Row.keyed g.Key-as-Key.lawful rows c.args.key mid c.index-rows-mid.result (omega arith) c.index-rows-mid.is (cc), c.loop-low.invariant.3)
+    (omega arith, omega arith, under_next g.R.Row.keyed g.R.Key.Key.lawful rows c.args.key mid c.index-rows-mid.result (omega arith) c.index-rows-mid.is (cc), c.loop-low.invariant.3)
 
 pub returns-in-Equal : goal.returns-in-Equal
 returns-in-Equal g c =
@@ -18,25 +18,25 @@ returns-in-Equal g c =
     let k = c.args.key in
     let x = c.index-rows-mid.result in
     let mid = c.loop-low.low + (c.loop-low.high - c.loop-low.low) / 2 in
-    let e : g.Key-as-Key.rank (g.R.Row.keyed (get_or rows mid x)) k ≡ Equal = cc in
-    let p = sym (place_at g.R.Row.keyed g.Key-as-Key.lawful rows k mid x c.requires (omega arith) e) in
+    let e : g.R.Key.Key.rank (g.R.Row.keyed (get_or rows mid x)) k ≡ Equal = cc in
+    let p = sym (place_at g.R.Row.keyed g.R.Key.Key.lawful rows k mid x c.requires (omega arith) e) in
     record {
       place = p;
       within = omega arith;
-      count = place_counts g.R.Row.keyed g.Key-as-Key.lawful rows k (Ok mid) c.requires p;
-      there = ap is_some (found_at g.R.Row.keyed g.Key-as-Key.rank rows k mid p x);
-      found = found_at g.R.Row.keyed g.Key-as-Key.rank rows k mid p;
-      cut = cut_at g.R.Row.keyed g.Key-as-Key.rank rows k mid x p;
-      put = put_over g.R.Row.keyed g.Key-as-Key.rank rows k mid p;
-      cut-ascends = ascending_remove g.R.Row.keyed g.Key-as-Key.lawful rows k c.requires;
-      put-ascends = λ row q. ascending_insert g.R.Row.keyed g.Key-as-Key.lawful rows row c.requires;
+      count = place_counts g.R.Row.keyed g.R.Key.Key.lawful rows k (Ok mid) c.requires p;
+      there = ap is_some (found_at g.R.Row.keyed g.R.Key.Key.rank rows k mid p x);
+      found = found_at g.R.Row.keyed g.R.Key.Key.rank rows k mid p;
+      cut = cut_at g.R.Row.keyed g.R.Key.Key.rank rows k mid x p;
+      put = put_over g.R.Row.keyed g.R.Key.Key.rank rows k mid p;
+      cut_ascends = ascending_remove g.R.Row.keyed g.R.Key.Key.lawful rows k c.requires;
+      put_ascends = λ row q. ascending_insert g.R.Row.keyed g.R.Key.Key.lawful rows row c.requires;
     }
 
 pub loop-low-preserved : goal.loop-low-preserved
 loop-low-preserved g c =
     let rows = c.args.rows.now in
     let mid = c.loop-low.low + (c.loop-low.high - c.loop-low.low) / 2 in
-    (omega arith, omega arith, c.loop-low.invariant.2, over_here g.R.Row.keyed g.Key-as-Key.lawful rows c.args.key mid c.index-rows-mid.result (omega arith) c.index-rows-mid.is (cc))
+    (omega arith, omega arith, c.loop-low.invariant.2, over_here g.R.Row.keyed g.R.Key.Key.lawful rows c.args.key mid c.index-rows-mid.result (omega arith) c.index-rows-mid.is (cc))
 
 pub returns : goal.returns
 returns g c =
@@ -44,15 +44,15 @@ returns g c =
     let k = c.args.key in
     let low = c.loop-low.low in
     let at_end : c.loop-low.high ≡ low = omega arith in
-    let p = sym (place_between g.R.Row.keyed g.Key-as-Key.lawful rows k low c.requires (omega arith) c.loop-low.invariant.2 (λ d p. rw at_end at (c.loop-low.invariant.3 d (omega arith)))) in
+    let p = sym (place_between g.R.Row.keyed g.R.Key.Key.lawful rows k low c.requires (omega arith) c.loop-low.invariant.2 (λ d p. rw at_end at (c.loop-low.invariant.3 d (omega arith)))) in
     record {
       place = p;
       within = omega arith;
-      count = place_counts g.R.Row.keyed g.Key-as-Key.lawful rows k (Err low) c.requires p;
-      there = ap is_some (found_none g.R.Row.keyed g.Key-as-Key.rank rows k low p);
-      found = found_none g.R.Row.keyed g.Key-as-Key.rank rows k low p;
-      cut = cut_none g.R.Row.keyed g.Key-as-Key.rank rows k low p;
-      put = put_new g.R.Row.keyed g.Key-as-Key.rank rows k low p;
-      cut-ascends = ascending_remove g.R.Row.keyed g.Key-as-Key.lawful rows k c.requires;
-      put-ascends = λ row q. ascending_insert g.R.Row.keyed g.Key-as-Key.lawful rows row c.requires;
+      count = place_counts g.R.Row.keyed g.R.Key.Key.lawful rows k (Err low) c.requires p;
+      there = ap is_some (found_none g.R.Row.keyed g.R.Key.Key.rank rows k low p);
+      found = found_none g.R.Row.keyed g.R.Key.Key.rank rows k low p;
+      cut = cut_none g.R.Row.keyed g.R.Key.Key.rank rows k low p;
+      put = put_new g.R.Row.keyed g.R.Key.Key.rank rows k low p;
+      cut_ascends = ascending_remove g.R.Row.keyed g.R.Key.Key.lawful rows k c.requires;
+      put_ascends = λ row q. ascending_insert g.R.Row.keyed g.R.Key.Key.lawful rows row c.requires;
     }

@@ -7,7 +7,7 @@ use Rattle.table.proofs.slices.search.Given as goal
 -- the row before `low` stands below the key, and the row at `high` above it
 abbrev pub invariant-loop-low : goal.invariant-loop-low
 invariant-loop-low g l =
-    let at = towards g.R.Row.keyed g.Key-as-Key.rank l.key in
+    let at = towards g.R.Row.keyed g.R.Key.Key.rank l.key in
     (l.low ≤ l.high) × (l.high ≤ length l.rows) × Under at l.rows l.low × Over at l.rows l.high
 
 abbrev pub decreases-loop-low : goal.decreases-loop-low

@@ -9,17 +9,17 @@ use Rattle.table.proofs.owner.methods.take_out.Goals as goal
 pub returns : goal.returns
 returns g c =
     let key = g.R.Row.keyed in
-    let rank = g.Key-as-Key.rank in
+    let rank = g.R.Key.Key.rank in
     let k = c.args.key in
     let len = c.args.len in
-    let new = c.remove-in.new.rows in
-    let same = c.as-mut-slice.ensures.value in
-    let long : length new ≡ vec_len c.args.places.now = omega (arith, c.remove-in.auto.rows, c.as-mut-slice.ensures.len) in
+    let new = c.remove_in.new.rows in
+    let same = c.as_mut_slice.ensures.value in
+    let long : length new ≡ vec_len c.args.places.now = omega (arith, c.remove_in.auto.rows, c.as_mut_slice.ensures.len) in
     let e : (with_items c.args.places.now new).items ≡ new = with_items_is c.args.places.now new long in
     record {
-      order = subst (λ s. ascending key rank (remove_row key rank (take len s) k) ≡ true) same c.remove-in.ensures.order;
-      value = c.remove-in.ensures.value ∙ ap (λ s. find key rank (take len s) k) same;
-      front = ap (take (len - length (option_to_list c.remove-in.result))) e ∙ c.remove-in.ensures.front ∙ ap (λ s. remove_row key rank (take len s) k) same;
-      fewer = c.remove-in.ensures.fewer;
+      order = subst (λ s. ascending key rank (remove_row key rank (take len s) k) ≡ true) same c.remove_in.ensures.order;
+      value = c.remove_in.ensures.value ∙ ap (λ s. find key rank (take len s) k) same;
+      front = ap (take (len - length (option_to_list c.remove_in.result))) e ∙ c.remove_in.ensures.front ∙ ap (λ s. remove_row key rank (take len s) k) same;
+      fewer = c.remove_in.ensures.fewer;
       len = refl;
     }
