@@ -18,7 +18,7 @@ pub loop-old-preserved : goal.loop-old-preserved
 loop-old-preserved c =
     let l = link_of c.args.page c.args.new.now (books_of c.args.ledger.now) in
     let z = to_z-of_z w64 c.args.base c.ranges.base in
-    olds_more l c.args.page c.args.olds.now c.loop-old.old-index c.args.base _ _ z z _ c.loop-old-test.true c.loop-old.invariant c.in-ok-check-at.ensures
+    olds_more l c.args.page c.args.olds.now c.loop-old.old-index c.args.base _ _ z z _ c.loop-old-test.true c.loop-old.invariant c.in_ok-check-at.ensures
 
 pub returns : goal.returns
 returns c =

@@ -34,7 +34,7 @@ loop-n-preserved c =
     let size = c.args.segment-size in
     let low = subst (λ k. n < k) (sym (length-map c.args.segments.now (λ s. s.state))) c.loop-n-test.true in
     let state = state_read c.args.segments.now n c.index-segments-n.result c.loop-n-test.true in
-    let e = c.in-ok-order-state.ensures in
+    let e = c.in_ok-order-state.ensures in
     let m = e.more in
     let k = c.loop-n.invariant.2 in
     (e.order, e.limit ∙ c.loop-n.invariant.1, omega arith, order_more size n all (held c.loop-n.ordering) _ c.loop-n.invariant.3 (held c.order_state.new.ordering) low (e.rows ∙ ap (λ s. order_state (n * size) s (held c.loop-n.ordering)) state))

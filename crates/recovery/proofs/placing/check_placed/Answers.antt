@@ -15,9 +15,9 @@ returns-in-err-check-opened c =
 pub returns-then-page-rows-full : goal.returns-then-page-rows-full
 returns-then-page-rows-full c =
     let b = books_of c.args.ledger.now in
-    opened_passes c.args.header-len c.args.page c.args.row.now b true c.in-ok-check-opened.ensures (c.if-page-rows-full.ensures ∙ ap (λ n. page_rows_full b n c.args.page) (c.segment-id.ensures ∙ ap (segment_of b) c.lid.ensures))
+    opened_passes c.args.header-len c.args.page c.args.row.now b true c.in_ok-check-opened.ensures (c.if-page-rows-full.ensures ∙ ap (λ n. page_rows_full b n c.args.page) (c.segment-id.ensures ∙ ap (segment_of b) c.lid.ensures))
 
 pub returns : goal.returns
 returns c =
     let b = books_of c.args.ledger.now in
-    opened_passes c.args.header-len c.args.page c.args.row.now b false c.in-ok-check-opened.ensures (c.if-page-rows-full.ensures ∙ ap (λ n. page_rows_full b n c.args.page) (c.segment-id.ensures ∙ ap (segment_of b) c.lid.ensures))
+    opened_passes c.args.header-len c.args.page c.args.row.now b false c.in_ok-check-opened.ensures (c.if-page-rows-full.ensures ∙ ap (λ n. page_rows_full b n c.args.page) (c.segment-id.ensures ∙ ap (segment_of b) c.lid.ensures))

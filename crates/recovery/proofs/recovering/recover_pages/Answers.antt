@@ -18,8 +18,8 @@ returns-in-err-recover-page c =
 
 pub loop-page-preserved : goal.loop-page-preserved
 loop-page-preserved c = (
-  c.in-ok-recover-page.ensures.kept,
-  pages_more c.args.header-len c.args.directory.now c.args.rows.now c.loop-page.page no_entry (books_of c.loop-page.ledger) _ c.loop-page.invariant.1 (books_of c.recover-page.new.ledger) c.loop-page-test.true c.in-ok-recover-page.ensures.books,
+  c.in_ok-recover-page.ensures.kept,
+  pages_more c.args.header-len c.args.directory.now c.args.rows.now c.loop-page.page no_entry (books_of c.loop-page.ledger) _ c.loop-page.invariant.1 (books_of c.recover-page.new.ledger) c.loop-page-test.true c.in_ok-recover-page.ensures.books,
 )
 
 pub returns : goal.returns

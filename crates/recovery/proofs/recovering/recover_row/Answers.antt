@@ -63,7 +63,7 @@ link-at-requires c =
     let at = c.segment-id-n.ensures ∙ ap (segment_of b) c.lid.ensures in
     let low = among l.segments _ _ _ at c.len.ensures c.if-n-len.false in
     let mid = c.open-for.ensures in
-    let none = row_passes c.args.header-len c.args.page row b low (c.in-ok-check-placed.ensures ∙ ap (λ x. verdict (placed_refusal c.args.header-len c.args.page row x)) mid) in
+    let none = row_passes c.args.header-len c.args.page row b low (c.in_ok-check-placed.ensures ∙ ap (λ x. verdict (placed_refusal c.args.header-len c.args.page row x)) mid) in
     record {
       reached = subst (λ (x : Books). c.segment-id-n.result < length x.segments) (sym mid) (subst (λ n. n < length (opened_for row b).segments) (sym at) (row_reached c.args.header-len c.args.page row b low));
       room = subst (λ n. n ≤ 2048) (λ i. length (linked_at (sym at i) c.args.page (sym c.row_size.ensures i) (sym mid i)).pages) (row_room c.args.header-len c.args.page row b c.requires.lsn none c.requires.kept.within);
@@ -78,7 +78,7 @@ returns c =
     let at = c.segment-id-n.ensures ∙ ap (segment_of b) c.lid.ensures in
     let low = among l.segments _ _ _ at c.len.ensures c.if-n-len.false in
     let mid = c.open-for.ensures in
-    let none = row_passes c.args.header-len c.args.page row b low (c.in-ok-check-placed.ensures ∙ ap (λ x. verdict (placed_refusal c.args.header-len c.args.page row x)) mid) in
+    let none = row_passes c.args.header-len c.args.page row b low (c.in_ok-check-placed.ensures ∙ ap (λ x. verdict (placed_refusal c.args.header-len c.args.page row x)) mid) in
     let all : books_of c.link-at.new.self ≡ after c.args.header-len c.args.page row b = c.link-at.ensures ∙ λ i. linked_at (at i) c.args.page (c.row_size.ensures i) (mid i) in
     record {
       books = ap Ok all ∙ row_done c.args.header-len c.args.page row b none;

@@ -23,8 +23,8 @@ returns-in-err-recover-row c =
 
 pub loop-row-preserved : goal.loop-row-preserved
 loop-row-preserved c = (
-  c.in-ok-recover-row.ensures.kept,
-  rows_more c.args.header-len c.args.page _ c.loop-row.row-index _ (books_of c.loop-row.ledger) _ c.loop-row.invariant.1 (books_of c.recover_row.new.ledger) c.loop-row-test.true c.in-ok-recover-row.ensures.books,
+  c.in_ok-recover-row.ensures.kept,
+  rows_more c.args.header-len c.args.page _ c.loop-row.row-index _ (books_of c.loop-row.ledger) _ c.loop-row.invariant.1 (books_of c.recover_row.new.ledger) c.loop-row-test.true c.in_ok-recover-row.ensures.books,
 )
 
 pub returns : goal.returns

@@ -19,11 +19,11 @@ returns-in-err-count c =
 pub recover-with-requires : goal.recover-with-requires
 recover-with-requires c =
     let s = plan_of c.args.segment-size c.args.header-len c.args.snapshot.now in
-    let e = planned_ok (plan_refusal s c.args.slot c.args.extent) (segment_count s c.args.extent) c.in-ok-count.count c.in-ok-count.ensures in
+    let e = planned_ok (plan_refusal s c.args.slot c.args.extent) (segment_count s c.args.extent) c.in_ok-count.count c.in_ok-count.ensures in
     (c.args.slot, c.args.extent, e.0, e.1)
 
 pub returns : goal.returns
 returns c =
     let s = plan_of c.args.segment-size c.args.header-len c.args.snapshot.now in
-    let e = planned_ok (plan_refusal s c.args.slot c.args.extent) (segment_count s c.args.extent) c.in-ok-count.count c.in-ok-count.ensures in
+    let e = planned_ok (plan_refusal s c.args.slot c.args.extent) (segment_count s c.args.extent) c.in_ok-count.count c.in_ok-count.ensures in
     c.recover-with.ensures ∙ (ap (recovered_with s) e.1 ∙ sym (ap (λ o. recovered_if o s c.args.extent) e.0))

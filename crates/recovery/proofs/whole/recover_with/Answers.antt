@@ -27,10 +27,10 @@ returns-in-err-recover-pages c =
     ap (λ r. outcome r (books_of c.recover_pages.new.ledger)) p.1 ∙ ap (λ o. and_then o ordered) e
 
 pub order-all-requires : goal.order-all-requires
-order-all-requires c = c.in-ok-recover-pages.ensures.kept
+order-all-requires c = c.in_ok-recover-pages.ensures.kept
 
 pub returns : goal.returns
 returns c =
     let s = plan_of c.args.segment-size c.args.header-len c.args.snapshot.now in
-    let e = c.in-ok-recover-pages.ensures.books ∙ ap (recover_pages s.header 0 s.directory s.rows) c.begin.ensures in
+    let e = c.in_ok-recover-pages.ensures.books ∙ ap (recover_pages s.header 0 s.directory s.rows) c.begin.ensures in
     c.order_all.ensures ∙ ap (λ o. and_then o ordered) e

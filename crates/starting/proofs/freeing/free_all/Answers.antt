@@ -32,7 +32,7 @@ loop-n-preserved g c =
     let states = (books_of c.args.world.now.ledger).segments in
     let w = seen g.H.Host.model c.loop-n.world in
     let v = seen g.H.Host.model c.free_state.new.world in
-    let e = c.in-ok-free-state.ensures in
+    let e = c.in_ok-free-state.ensures in
     (still_kept g.H.Host.respond states n w _ c.loop-n.invariant.1 c.loop-n.invariant.0 low _ v e, free_more g.H.Host.respond states n w _ c.loop-n.invariant.1 c.loop-n.invariant.0 low v e)
 
 pub returns : goal.returns

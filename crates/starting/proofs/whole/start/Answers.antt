@@ -24,7 +24,7 @@ returns-in-err-recover g c =
     record { started = e; kept = start_kept g.H.Host.respond s (g.H.Host.slot m) (g.H.Host.extent m) m m c.from-residual.result b e }
 
 pub finish-requires : goal.finish-requires
-finish-requires g c = passed_recovered (plan_of c.args.segment-size c.args.header-len c.args.snapshot) c.segment-size-slot.result c.length-extent.result (books_of c.recover.new.ledger) c.in-ok-recover.ensures
+finish-requires g c = passed_recovered (plan_of c.args.segment-size c.args.header-len c.args.snapshot) c.segment-size-slot.result c.length-extent.result (books_of c.recover.new.ledger) c.in_ok-recover.ensures
 
 pub returns : goal.returns
 returns g c =
@@ -34,6 +34,6 @@ returns g c =
     let slot = c.segment-size-slot.result in
     let extent = c.length-extent.result in
     let b : Books = books_of c.finish.new.world.ledger in
-    let r : ◌≡◌ {A = Result Books Refusal} (Ok (books_of c.recover.new.ledger)) (recovered_if (plan_refusal s slot extent) s extent) = c.in-ok-recover.ensures in
+    let r : ◌≡◌ {A = Result Books Refusal} (Ok (books_of c.recover.new.ledger)) (recovered_if (plan_refusal s slot extent) s extent) = c.in_ok-recover.ensures in
     let e : ended c.finish.result b k ≡ started g.H.Host.respond s (g.H.Host.slot m) (g.H.Host.extent m) m = c.finish.ensures ∙ (ap (λ o. freed_after g.H.Host.respond o m) r ∙ (start_after g.H.Host.respond (plan_refusal s slot extent) s extent m ∙ λ i. started g.H.Host.respond s (c.segment-size-slot.ensures i) (c.length-extent.ensures i) m)) in
     record { started = e; kept = start_kept g.H.Host.respond s (g.H.Host.slot m) (g.H.Host.extent m) m k c.finish.result b e }

@@ -28,7 +28,7 @@ loop-row-preserved g c =
     let t = g.H.Host.model c.remove.new.self in
     let row : BlobRow = get_or c.args.rows.now c.loop-row.row-index (blob_row 0 (pos 0)) in
     let fits : SFits w64 row.blob = search rules in
-    let e : respond m (asked_remove row.blob) ≡ (Ok tt, t) = ap (λ z. respond m (asked_remove z)) (sym (to_z-of_z w64 row.blob fits)) ∙ (sym c.remove.ensures ∙ ap (λ r. (r, t)) c.in-ok-remove.was) in
+    let e : respond m (asked_remove row.blob) ≡ (Ok tt, t) = ap (λ z. respond m (asked_remove z)) (sym (to_z-of_z w64 row.blob fits)) ∙ (sym c.remove.ensures ∙ ap (λ r. (r, t)) c.in_ok-remove.was) in
     fold_more (remove_blobs respond) (λ row m. respond m (asked_remove row.blob)) (removed_by respond) (λ s. refl) (λ x xs s. refl) (λ f s. refl) (λ f e s. refl) c.args.rows.now c.loop-row.row-index m _ c.loop-row.invariant (blob_row 0 (pos 0)) t c.loop-row-test.true e
 
 pub returns : goal.returns

@@ -11,5 +11,5 @@ returns c =
     let n = c.min.result - 0 in
     let first : take n bs ≡ take 1024 bs = first_among bs 1024 n (omega (arith, c.min.ensures)) in
     let rows : blobs_of c.enter.new.self ≡ first_blobs bs =
-    c.enter.ensures ∙ ap (λ s. with_all s (take n bs)) (same_blobs _ none c.in-ok-table.ensures.0) ∙ ap (with_all none) first in
+    c.enter.ensures ∙ ap (λ s. with_all s (take n bs)) (same_blobs _ none c.in_ok-table.ensures.0) ∙ ap (with_all none) first in
     record { rows = rows; members = λ b. ap (λ s. is_held s b) rows ∙ held_entered none (take 1024 bs) b }

@@ -49,7 +49,7 @@ returns g c =
     let n = c.number-of-lsn-n.ensures ∙ ap (number_of_lsn w.books) (to_z-of_z w64 c.args.lsn c.ranges.lsn) in
     let x = active_of (state_of w.books k) (sym c.is_active_at.ensures ∙ c.if-not-is-active-at.false) in
     let m = g.H.Host.model c.remove_blobs.new.host in
-    let e : remove_blobs respond (blobs_of k w.books.blobs) w.host ≡ (Ok tt, m) = ap (λ rows. remove_blobs respond rows w.host) (sym c.blobs_of.ensures) ∙ (sym c.remove_blobs.ensures ∙ ap (λ r. (r, m)) c.in-ok-remove-blobs.was) in
+    let e : remove_blobs respond (blobs_of k w.books.blobs) w.host ≡ (Ok tt, m) = ap (λ rows. remove_blobs respond rows w.host) (sym c.blobs_of.ensures) ∙ (sym c.remove_blobs.ensures ∙ ap (λ r. (r, m)) c.in_ok-remove-blobs.was) in
     ap (λ v. (Ok tt, v)) (c.close.ensures x.0 x.1)
     ∙ (sym (ap (λ s. deactivate_state respond k s w) x.1 ∙ ap (deactivated_by respond k x.0 w.books) e)
     ∙ ap (λ k. deactivate_state respond k (state_of w.books k) w) n)

@@ -38,7 +38,7 @@ loop-row-preserved g c =
     let t = seen g.H.Host.model c.deactivate.new.self in
     let row : OrderingRow = get_or c.args.rows.now c.loop-row.row-index no_row in
     let fits : SFits w64 row.lsn = search rules in
-    let e : deactivated respond row.lsn w ≡ (Ok tt, t) = ap (λ z. deactivated respond z w) (sym (to_z-of_z w64 row.lsn fits)) ∙ (sym c.deactivate.ensures ∙ ap (λ r. (r, t)) c.in-ok-deactivate.was) in (
+    let e : deactivated respond row.lsn w ≡ (Ok tt, t) = ap (λ z. deactivated respond z w) (sym (to_z-of_z w64 row.lsn fits)) ∙ (sym c.deactivate.ensures ∙ ap (λ r. (r, t)) c.in_ok-deactivate.was) in (
       subst (λ o. Shared o.1.books) e (deactivated_keeps respond share_steps row.lsn w c.loop-row.invariant.0),
       fold_more (deactivate_all respond) (λ row w. deactivated respond row.lsn w) (then_deactivated respond) (λ s. refl) (λ x xs s. refl) (λ f s. refl) (λ f e s. refl) c.args.rows.now c.loop-row.row-index w _ c.loop-row.invariant.1 no_row t c.loop-row-test.true e,
     )
