@@ -136,7 +136,7 @@ pub marks_in : (row x : PageRow) (pages : List PageRow) → find page_key by_pag
 marks_in row x pages e =
     let a = (tally_put (is_in row.segment) (towards page_key by_page (page_key row)) row pages).1 x e in
     let k : page_key x ≡ page_key row = find_key page_key page_law pages (page_key row) x e in
-    let b : one (is_in row.segment x) ≡ one (is_in row.segment row) = ap (λ (z : ℕ × ℕ). one (Rattle.std.specs.Ordering.is_eq (Rattle.std.specs.Cmp.rank z.0 row.segment))) k in
+    let b : one (is_in row.segment x) ≡ one (is_in row.segment row) = ap (λ (z : ℕ × ℕ). one (Rattle.std.specs.Ordering.is_eq (Rattle.std.specs.Ordering.nat_cmp z.0 row.segment))) k in
     omega arith
 
 pub marks_left : (row x : PageRow) (pages : List PageRow) → find page_key by_page pages (page_key row) ≡ Some x → x.left ≡ false → row.left ≡ true → tally (left_in row.segment) (insert_row page_key by_page pages row) ≡ tally (left_in row.segment) pages + 1

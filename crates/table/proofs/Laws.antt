@@ -208,8 +208,8 @@ module _ {X K : Type 0} (key : X → K) {rank : K → K → Ordering} (laws : La
   remove_absent [] k e = refl
   remove_absent (x ∷ xs) k e = (count_cut (x ∷ xs) x _ _ _ _ (told (towards key rank k) (x ∷ xs) x)).0 e
 
-  pub length-remove : (rows : List X) (k : K) (x : X) → find key rank rows k ≡ Some x → length (remove_row key rank rows k) + 1 ≡ length rows
-  length-remove rows k x e = (count_cut rows x _ _ _ _ (told (towards key rank k) rows x)).1 x e
+  pub length_remove : (rows : List X) (k : K) (x : X) → find key rank rows k ≡ Some x → length (remove_row key rank rows k) + 1 ≡ length rows
+  length_remove rows k x e = (count_cut rows x _ _ _ _ (told (towards key rank k) rows x)).1 x e
 
   -- ---- rows that ascend are determined by what is found
   pub find_first : (x : X) (xs : List X) → find key rank (x ∷ xs) (key x) ≡ Some x
