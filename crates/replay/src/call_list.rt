@@ -10,11 +10,11 @@ pub(crate) struct CallList {
 }
 
 impl CallList {
-    pub(crate) fn new(rt: &HostRuntime) -> CallList {
-        CallList {
-            reader: BufReader::new(rt.stdin()),
+    pub(crate) fn new(rt: &HostRuntime) -> Result<CallList, Stop> {
+        Ok(CallList {
+            reader: BufReader::new(rt.alloc(), rt.stdin())?,
             line: 0,
-        }
+        })
     }
 
     // The number of the line that was read last.

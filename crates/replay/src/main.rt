@@ -13,7 +13,7 @@ use crate::stop::Stop;
 
 // A line that cannot be read is told, and ends the work.
 fn main(rt: HostRuntime) -> Result<(), Stop> {
-    let mut list = CallList::new(&rt);
+    let mut list = CallList::new(&rt)?;
     let ended = play(&rt, &mut list);
     if let Err(Stop::Unread(reason)) = &ended {
         let line = list.line();

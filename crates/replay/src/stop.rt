@@ -3,7 +3,7 @@ use crate::statement::Reason;
 use std::alloc::{AllocError, AllocFailed};
 use std::io;
 
-#[derive(Drop)]
+#[derive(Debug, Drop)]
 pub(crate) enum Stop {
     Unread(Reason),
     Memory,
