@@ -9,19 +9,24 @@ trap 'rm -rf "$scratch"' EXIT
 
 # A crate of the state types and their changes, with one function more.
 copy_with() {
-    local crate="$scratch/$1"
+    local crate="$scratch/crates/$1"
+    echo "$1:" >> "$scratch/crates.txt"
     mkdir -p "$crate/src" "$crate/specs"
     cp "$segment"/src/{types,state,changes}.rt "$crate/src/"
     cp "$segment/specs/Changes.antt" "$crate/specs/"
-    sed -i "s/Rattle·segment·specs/Rattle·$1·specs/" "$crate/src/changes.rt" "$crate/specs/Changes.antt"
+    sed -i "s/Rattle.segment.specs/Rattle.$1.specs/" "$crate/src/changes.rt" "$crate/specs/Changes.antt"
     echo 'pub mod Changes' > "$crate/specs/Lib.antt"
-    printf '%s\n' 'mod changes;' 'mod state;' 'mod types;' 'pub mod uses;' > "$crate/src/lib.rt"
+    printf '%s\n' '#![tactic(auto)]' 'mod changes;' 'mod state;' 'mod types;' 'pub mod uses;' > "$crate/src/lib.rt"
     printf '%s\n' 'use crate::state::Active;' 'use crate::state::Free;' 'use crate::state::Inactive;' "$2" > "$crate/src/uses.rt"
+}
+
+check() {
+    (cd "$scratch/crates/$1" && rt check) > "$scratch/$1.out" 2>&1
 }
 
 refused() {
     local name="$1" reason="$2"
-    if rt check "$scratch/$name" > "$scratch/$name.out" 2>&1; then
+    if check "$name"; then
         echo "misuse: $name was accepted"
         exit 1
     fi
@@ -39,5 +44,5 @@ copy_with right_use 'pub fn former(free: &Free) -> Option<i64> { free.previous_l
 
 refused lsn_of_free 'error\[unknown-field\]'
 refused deactivated_twice 'error\[borrow-e0382\]'
-rt check "$scratch/right_use" > "$scratch/right_use.out" 2>&1 || { echo "misuse: the right use was refused"; tail -5 "$scratch/right_use.out"; exit 1; }
+check right_use || { echo "misuse: the right use was refused"; tail -5 "$scratch/right_use.out"; exit 1; }
 echo "misuse: the right use is accepted"
