@@ -12,10 +12,10 @@ use table::{Key, Row, Table};
 
 // Writes over the row at place i by one with the same key.
 fn write_at<R: Row>(table: &mut Table<R>, i: usize, row: R)
-    requires order { ascending R.Row.keyed Key-as-Key.rank (held table.old) ≡ true }
+    requires order { ascending R.Row.keyed R.Key.Key.rank (held table.old) ≡ true }
     requires there { i < length (held table.old) }
     requires same { R.Row.keyed (slice_index_or (held table.old) i row) ≡ R.Row.keyed row }
-    ensures order { ascending R.Row.keyed Key-as-Key.rank (held table.new) ≡ true }
+    ensures order { ascending R.Row.keyed R.Key.Key.rank (held table.new) ≡ true }
     ensures limit { limit_of table.new ≡ limit_of table.old }
     ensures rows { held table.new ≡ slice_set (held table.old) i row }
 {

@@ -7,11 +7,11 @@ use table::{Key, Row, Table};
 
 // Puts the row into a table that has room for it.
 pub fn put<R: Row>(table: &mut Table<R>, row: R)
-    requires order { ascending R.Row.keyed Key-as-Key.rank (held table.old) ≡ true }
-    requires room { length (insert_row R.Row.keyed Key-as-Key.rank (held table.old) row) ≤ limit_of table.old }
-    ensures order { ascending R.Row.keyed Key-as-Key.rank (held table.new) ≡ true }
+    requires order { ascending R.Row.keyed R.Key.Key.rank (held table.old) ≡ true }
+    requires room { length (insert_row R.Row.keyed R.Key.Key.rank (held table.old) row) ≤ limit_of table.old }
+    ensures order { ascending R.Row.keyed R.Key.Key.rank (held table.new) ≡ true }
     ensures limit { limit_of table.new ≡ limit_of table.old }
-    ensures rows { held table.new ≡ insert_row R.Row.keyed Key-as-Key.rank (held table.old) row }
+    ensures rows { held table.new ≡ insert_row R.Row.keyed R.Key.Key.rank (held table.old) row }
 {
     let _ = table.insert(row);
 }

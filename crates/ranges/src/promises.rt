@@ -4,7 +4,7 @@ ghost use Rattle.table.specs.Promises.{Promises, PairPromises, NumberPromises};
 use table::{Key, Row};
 
 pub fn promises_stand<R: Row>() -> u8
-    ensures { Promises R.Row.keyed Key-as-Key.rank }
+    ensures { Promises R.Row.keyed R.Key.Key.rank }
 {
     0
 }

@@ -6,5 +6,5 @@ pub returns : goal.returns
 returns g c = record {
   order = c.insert.ensures.order;
   limit = c.insert.ensures.limit;
-  rows = over_place g.R.Row.keyed g.Key.Key.lawful _ _ c.args.i _ c.args.row c.insert.result c.requires.order c.requires.there c.requires.same c.insert.ensures.cases;
+  rows = over_place g.R.Row.keyed g.R.Key.Key.lawful _ _ c.args.i _ c.args.row c.insert.result c.requires.order c.requires.there c.requires.same c.insert.ensures.cases;
 }

@@ -45,6 +45,6 @@ returns-else-n-len c =
     let h = c.if-n-len.false in
     let lsn = ap opened (to_z-of_z w64 c.args.lsn c.ranges.lsn) in
     record {
-      states = ap states c.push-reserved.ensures.items ∙ (map_push (λ s. s.state) (vec_items v) _ ∙ (ap (λ a. states (vec_items v) ++ is.Active a ∷ []) (c.activate.ensures ∙ lsn) ∙ sym (entered_new c.args.n (is.Active (opened c.args.lsn)) (states (vec_items v)) (omega arith))));
-      cap = c.push-reserved.ensures.capacity;
+      states = ap states c.push_reserved.ensures.items ∙ (map_push (λ s. s.state) (vec_items v) _ ∙ (ap (λ a. states (vec_items v) ++ is.Active a ∷ []) (c.activate.ensures ∙ lsn) ∙ sym (entered_new c.args.n (is.Active (opened c.args.lsn)) (states (vec_items v)) (omega arith))));
+      cap = c.push_reserved.ensures.capacity;
     }

@@ -6,5 +6,5 @@ pub returns : goal.returns
 returns g c = record {
   order = c.insert.ensures.order;
   limit = c.insert.ensures.limit;
-  rows = entered g.R.Row.keyed g.Key.Key.lawful _ _ _ _ c.insert.result c.requires.room c.insert.ensures.cases;
+  rows = entered g.R.Row.keyed g.R.Key.Key.lawful _ _ _ _ c.insert.result c.requires.room c.insert.ensures.cases;
 }

@@ -12,7 +12,7 @@ pub returns : goal.returns
 returns c =
     let v = c.args.segments.now in
     record {
-      state = ap (λ s. s.state) c.replace.ensures.value ∙ state_at v c.args.i c.index-mut.result.now (reached v c.args.i c.requires) c.index-mut.ensures.value;
+      state = ap (λ s. s.state) c.replace.ensures.value ∙ state_at v c.args.i c.index_mut.result.now (reached v c.args.i c.requires) c.index_mut.ensures.value;
       states = map-set (λ s. s.state) (vec_items v) c.args.i c.replace.new.dest ∙ ap (λ s. set (states (vec_items v)) c.args.i s.state) c.replace.ensures.after;
       cap = refl;
     }

@@ -6,20 +6,20 @@ use Rattle.table.proofs.Filters.{ascending_drop}
 use Rattle.table.proofs.Between.{bounds_are, range_most, part_lent, rest_left, without_ascends}
 use Rattle.ranges.proofs.places.span.Goals as goal
 
-pub count-below-count-requires : goal.count-below-count-requires
-count-below-count-requires g c = rw (take_rest c.args.rows.now c.args.start) (ascending_drop g.R.Row.keyed g.Key.Key.lawful c.args.start c.args.rows.now c.requires.order)
+pub count_below-count-requires : goal.count_below-count-requires
+count_below-count-requires g c = rw (take_rest c.args.rows.now c.args.start) (ascending_drop g.R.Row.keyed g.R.Key.Key.lawful c.args.start c.args.rows.now c.requires.order)
 
 pub returns : goal.returns
 returns g c =
     let rows = c.args.rows.now in
     let s = c.requires.start in
-    let n = bounds_are g.R.Row.keyed g.Key.Key.lawful rows c.args.from c.args.until _ c.count-below-count.result c.requires.order s c.count-below-count.ensures.value in
-    let most = range_most g.R.Row.keyed g.Key.Key.lawful rows c.args.from c.args.until c.requires.order in
-    let v : ◌≡◌ {A = ℕ × ℕ} (c.args.start, c.args.start + c.count-below-count.result) (count_below g.R.Row.keyed g.Key.Key.rank rows c.args.from, count_below g.R.Row.keyed g.Key.Key.rank rows c.args.from + length (between g.R.Row.keyed g.Key.Key.rank rows c.args.from c.args.until)) = λ i. (s i, s i + n i) in
+    let n = bounds_are g.R.Row.keyed g.R.Key.Key.lawful rows c.args.from c.args.until _ c.count_below-count.result c.requires.order s c.count_below-count.ensures.value in
+    let most = range_most g.R.Row.keyed g.R.Key.Key.lawful rows c.args.from c.args.until c.requires.order in
+    let v : ◌≡◌ {A = ℕ × ℕ} (c.args.start, c.args.start + c.count_below-count.result) (count_below g.R.Row.keyed g.R.Key.Key.rank rows c.args.from, count_below g.R.Row.keyed g.R.Key.Key.rank rows c.args.from + length (between g.R.Row.keyed g.R.Key.Key.rank rows c.args.from c.args.until)) = λ i. (s i, s i + n i) in
     record {
       value = v;
       within = (omega arith, omega arith);
-      part = part_lent g.R.Row.keyed g.Key.Key.lawful rows c.args.from c.args.until _ c.requires.order v;
-      rest = rest_left g.R.Row.keyed g.Key.Key.lawful rows c.args.from c.args.until _ c.requires.order v;
-      rest-ascends = without_ascends g.R.Row.keyed g.Key.Key.lawful rows c.args.from c.args.until c.requires.order;
+      part = part_lent g.R.Row.keyed g.R.Key.Key.lawful rows c.args.from c.args.until _ c.requires.order v;
+      rest = rest_left g.R.Row.keyed g.R.Key.Key.lawful rows c.args.from c.args.until _ c.requires.order v;
+      rest_ascends = without_ascends g.R.Row.keyed g.R.Key.Key.lawful rows c.args.from c.args.until c.requires.order;
     }

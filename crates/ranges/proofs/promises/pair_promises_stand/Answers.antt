@@ -14,7 +14,7 @@ returns g c = record {
     second_range = lemmas.second_range key g.A.Key.lawful g.B.Key.lawful;
   };
   numbers = record {
-    signed_floor = lemmas.least-signed;
+    signed_floor = lemmas.above_least_signed;
     unsigned_range = λ key. lemmas.unsigned_range key;
     unsigned_without = λ key. lemmas.unsigned_without key;
     signed_range = λ key. lemmas.signed_range key;

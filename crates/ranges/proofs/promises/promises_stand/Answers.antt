@@ -7,7 +7,7 @@ use Rattle.ranges.proofs.promises.promises_stand.Goals as goal
 pub returns : goal.returns
 returns g c =
     let key = g.R.Row.keyed in
-    let law = g.Key.Key.lawful in
+    let law = g.R.Key.Key.lawful in
     record {
       insert_ascends = ascending_insert key law;
       remove_ascends = ascending_remove key law;

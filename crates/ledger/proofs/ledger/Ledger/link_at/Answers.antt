@@ -10,6 +10,6 @@ use Rattle.ledger.proofs.ledger.Ledger.link_at.Goals as goal
 pub returns : goal.returns
 returns c =
     let l = c.args.self.now in
-    let segments = rewritten (states (vec_items l.segments)) _ _ c.args.n _ _ c.take-out.ensures.states c.write.ensures.states in
-    let state = c.with-bytes-segment.ensures ∙ ap (linked_state c.args.size) c.take-out.ensures.state in
-    λ i. books l.segment_size ((segments ∙ ap (set (states (vec_items l.segments)) c.args.n) state) i) l.tip l.max_stabilized_lsn (held l.free) (held l.ordering) (c.write-page.ensures.rows i) (held l.blobs) (held l.freeable) (held l.listed) (held l.faults)
+    let segments = rewritten (states (vec_items l.segments)) _ _ c.args.n _ _ c.take_out.ensures.states c.write.ensures.states in
+    let state = c.with_bytes-segment.ensures ∙ ap (linked_state c.args.size) c.take_out.ensures.state in
+    λ i. books l.segment_size ((segments ∙ ap (set (states (vec_items l.segments)) c.args.n) state) i) l.tip l.max_stabilized_lsn (held l.free) (held l.ordering) (c.write_page.ensures.rows i) (held l.blobs) (held l.freeable) (held l.listed) (held l.faults)

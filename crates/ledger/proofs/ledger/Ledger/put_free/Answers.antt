@@ -19,5 +19,5 @@ pub returns : goal.returns
 returns c =
     let l = c.args.self.now in
     let order = c.unorder.ensures.rows ∙ ap (λ s. unordered s (held l.ordering)) (state_at l.segments c.args.n c.index.result.now (reached l.segments c.args.n c.requires.reached) c.index.ensures) in
-    let off = c.remove-between.ensures.rows ∙ unsigned_without page_key (held l.pages) c.args.n in
+    let off = c.remove_between.ensures.rows ∙ unsigned_without page_key (held l.pages) c.args.n in
     λ i. books l.segment_size (states (vec_items l.segments)) l.tip l.max_stabilized_lsn (c.put.ensures.rows i) (order i) (off i) (held l.blobs) (held l.freeable) (c.remove.ensures.rows i) (held l.faults)
