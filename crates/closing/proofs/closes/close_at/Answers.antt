@@ -14,13 +14,13 @@ pub shut-requires : goal.shut-requires
 shut-requires c =
     let rows = rows_of c.args.n (held c.args.ledger.now.pages) in
     let m = kept_most (λ row. row.left) rows in
-    omega (arith, c.left-count-replaced-pids.ensures, c.page-count-max-pids.ensures)
+    omega (arith, c.left_count-replaced_pids.ensures, c.page_count-max_pids.ensures)
 
 pub returns : goal.returns
 returns c a e =
     let l = c.args.ledger.now in
     let n = c.args.n in
     let pages = held l.pages in
-    let state = c.shut.ensures a (c.take-out-segment.ensures.state ∙ e) ∙ (λ i. is.Inactive (closed (c.page-count-max-pids.ensures i) (c.left-count-replaced-pids.ensures i) a)) in
-    let new = c.write.ensures.states ∙ (λ i. set (c.take-out-segment.ensures.states i) n (state i)) ∙ set-set (states (vec_items l.segments)) n unused (is.Inactive (closed (page_count n pages) (left_count n pages) a)) in
+    let state = c.shut.ensures a (c.take_out-segment.ensures.state ∙ e) ∙ (λ i. is.Inactive (closed (c.page_count-max_pids.ensures i) (c.left_count-replaced_pids.ensures i) a)) in
+    let new = c.write.ensures.states ∙ (λ i. set (c.take_out-segment.ensures.states i) n (state i)) ∙ set-set (states (vec_items l.segments)) n unused (is.Inactive (closed (page_count n pages) (left_count n pages) a)) in
     λ i. books l.segment_size (new i) l.tip l.max_stabilized_lsn (held l.free) (held l.ordering) pages (held l.blobs) (held l.freeable) (held l.listed) (held l.faults)

@@ -14,8 +14,8 @@ loop-i-init c =
     let out = outside_range n start c.bounds-start.result.1 c.rows.result.now rows c.rows.ensures c.bounds-start.ensures.rest in
     (c.requires.order, refl, sym (front_alone (queued_in n) (λ row. not (is_in n row)) (other_alone n) start rows out.0))
 
-pub queue-at-requires : goal.queue-at-requires
-queue-at-requires c =
+pub queue_at-requires : goal.queue_at-requires
+queue_at-requires c =
     let rows = held c.args.pages.now in
     let a = ap length c.loop-i.invariant.2 ∙ changed_length (queued_in c.args.n) c.loop-i.i rows in
     let b = ap length c.rows.ensures in
@@ -34,9 +34,9 @@ loop-i-preserved c =
     let mine = inside_range n c.bounds-start.result.0 c.bounds-start.result.1 i slice rows d c.rows.ensures c.bounds-start.ensures.part c.loop-i.auto.i c.loop-i-test.true c.bounds-start.ensures.within.1 in
     let row : queued_if (get_or (changed_to f i rows) i d) ≡ f (get_or rows i d) = ap queued_if (changed_at f i rows d) ∙ own_queued n (get_or rows i d) mine in
     let e = c.loop-i.invariant.2 in (
-      c.queue-at.ensures.order,
-      c.queue-at.ensures.limit ∙ c.loop-i.invariant.1,
-      c.queue-at.ensures.rows d ∙ (λ k. set (e k) i (queued_if (get_or (e k) i d))) ∙ ap (set (changed_to f i rows) i) row ∙ changed_more f i rows d there,
+      c.queue_at.ensures.order,
+      c.queue_at.ensures.limit ∙ c.loop-i.invariant.1,
+      c.queue_at.ensures.rows d ∙ (λ k. set (e k) i (queued_if (get_or (e k) i d))) ∙ ap (set (changed_to f i rows) i) row ∙ changed_more f i rows d there,
     )
 
 pub returns : goal.returns

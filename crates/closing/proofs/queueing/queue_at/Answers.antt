@@ -8,8 +8,8 @@ use Rattle.rules.specs.Pages.{new_row}
 use Rattle.closing.proofs.Stepping.{lying_queued, left_alone}
 use Rattle.closing.proofs.queueing.queue_at.Goals as goal
 
-pub write-at-requires : goal.write-at-requires
-write-at-requires c =
+pub write_at-requires : goal.write_at-requires
+write_at-requires c =
     let rows = held c.args.pages.now in
     record {
       order = c.requires.order;
@@ -21,9 +21,9 @@ pub returns-then-not-row : goal.returns-then-not-row
 returns-then-not-row c =
     let rows = held c.args.pages.now in
     record {
-      order = c.write-at.ensures.order;
-      limit = c.write-at.ensures.limit;
-      rows = λ d. c.write-at.ensures.rows ∙ ap (set rows c.args.i) (lying_queued _ _ (ap (λ l. get_or l c.args.i (new_row 0 0)) c.rows.ensures ∙ get_or_default rows c.args.i (new_row 0 0) d c.requires.there) (not-true _ c.if-not-row.true));
+      order = c.write_at.ensures.order;
+      limit = c.write_at.ensures.limit;
+      rows = λ d. c.write_at.ensures.rows ∙ ap (set rows c.args.i) (lying_queued _ _ (ap (λ l. get_or l c.args.i (new_row 0 0)) c.rows.ensures ∙ get_or_default rows c.args.i (new_row 0 0) d c.requires.there) (not-true _ c.if-not-row.true));
     }
 
 pub returns-else-not-row : goal.returns-else-not-row

@@ -7,4 +7,4 @@ use Rattle.segment.specs.Rows.{freeable_key}
 use Rattle.closing.proofs.releases.first_held_back.Goals as goal
 
 pub returns : goal.returns
-returns c = c.first-of.ensures ∙ ap first_of (c.between.ensures ∙ signed_range freeable_key (held c.args.ledger.now.freeable) c.args.n c.requires.floor)
+returns c = c.first_of.ensures ∙ ap first_of (c.between.ensures ∙ signed_range freeable_key (held c.args.ledger.now.freeable) c.args.n c.requires.floor)

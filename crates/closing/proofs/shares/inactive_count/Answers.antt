@@ -9,8 +9,8 @@ use Rattle.closing.proofs.shares.inactive_count.Goals as goal
 pub returns : goal.returns
 returns c =
     let m = length-map (vec_items c.args.ledger.now.segments) (λ (s : Segment). s.state) in
-    let e = ap length c.as-slice.ensures.value in
+    let e = ap length c.as_slice.ensures.value in
     record {
-      value = c.inactive-in.ensures.value ∙ ap (λ l. length (filter is_inactive (states l))) c.as-slice.ensures.value;
-      most = omega (arith, c.inactive-in.ensures.most);
+      value = c.inactive_in.ensures.value ∙ ap (λ l. length (filter is_inactive (states l))) c.as_slice.ensures.value;
+      most = omega (arith, c.inactive_in.ensures.most);
     }

@@ -11,9 +11,9 @@ use Rattle.closing.proofs.shares.inactive_in.Goals.{then-is-inactive, else-is-in
 pub loop-segment-preserved : goal.loop-segment-preserved
 loop-segment-preserved c =
     let more = count_more c.args.segments.now c.loop-segment.segment-index c.segment-item.result c.loop-segment-test.true c.segment-item.is in
-    elim c.if-is-inactive.branch [
-      | then-is-inactive w ↦ let m = ap {B = ℕ} (λ t. cond t 1 0) w.if-is-inactive.ensures in (omega (arith, w.count-is, m, more, c.loop-segment.invariant), omega (arith, w.count-is, c.loop-segment.invariant))
-      | else-is-inactive w ↦ let m = ap {B = ℕ} (λ t. cond t 1 0) w.if-is-inactive.ensures in (omega (arith, w.count-is, m, more, c.loop-segment.invariant), omega (arith, w.count-is, c.loop-segment.invariant))
+    elim c.if-is_inactive.branch [
+      | then-is_inactive w ↦ let m = ap {B = ℕ} (λ t. cond t 1 0) w.if-is_inactive.ensures in (omega (arith, w.count-is, m, more, c.loop-segment.invariant), omega (arith, w.count-is, c.loop-segment.invariant))
+      | else-is_inactive w ↦ let m = ap {B = ℕ} (λ t. cond t 1 0) w.if-is_inactive.ensures in (omega (arith, w.count-is, m, more, c.loop-segment.invariant), omega (arith, w.count-is, c.loop-segment.invariant))
     ]
 
 pub returns : goal.returns

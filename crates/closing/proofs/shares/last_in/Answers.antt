@@ -14,9 +14,9 @@ loop-i-preserved c =
     let xs = c.args.segments.now in
     let i = c.loop-i.i in
     let read = ap is_inactive (state_there xs i c.index-segments-i.result c.loop-i-test.true) in
-    elim c.if-is-inactive.branch [
-      | then-is-inactive w ↦ ap (first_some (number_from (i + 1) (drop (i + 1) (states xs)))) w.found-is ∙ found_more (states xs) i c.loop-i.found true (there xs i c.loop-i-test.true) (read ∙ sym w.if-is-inactive.ensures) ∙ c.loop-i.invariant
-      | else-is-inactive w ↦ ap (first_some (number_from (i + 1) (drop (i + 1) (states xs)))) w.found-is ∙ found_more (states xs) i c.loop-i.found false (there xs i c.loop-i-test.true) (read ∙ sym w.if-is-inactive.ensures) ∙ c.loop-i.invariant
+    elim c.if-is_inactive.branch [
+      | then-is_inactive w ↦ ap (first_some (number_from (i + 1) (drop (i + 1) (states xs)))) w.found-is ∙ found_more (states xs) i c.loop-i.found true (there xs i c.loop-i-test.true) (read ∙ sym w.if-is_inactive.ensures) ∙ c.loop-i.invariant
+      | else-is_inactive w ↦ ap (first_some (number_from (i + 1) (drop (i + 1) (states xs)))) w.found-is ∙ found_more (states xs) i c.loop-i.found false (there xs i c.loop-i-test.true) (read ∙ sym w.if-is_inactive.ensures) ∙ c.loop-i.invariant
     ]
 
 pub returns : goal.returns

@@ -11,13 +11,13 @@ use Rattle.entries.proofs.Lengths.{held_most}
 use Rattle.entries.proofs.Linkable.{kept_state, rows_have_room, bytes_have_room}
 use Rattle.entries.proofs.recording.link.Goals as goal
 
-pub link-at-requires : goal.link-at-requires
-link-at-requires c =
+pub link_at-requires : goal.link_at-requires
+link_at-requires c =
     let l = c.args.ledger.now in
     let b : Books = books_of l in
     let p = c.args.page in
     let info = c.args.info.now in
-    let n = sym (c.segment-id-n.ensures ∙ ap (λ o. o / b.size) c.lid.ensures) in
+    let n = sym (c.segment_id-n.ensures ∙ ap (λ o. o / b.size) c.lid.ensures) in
     let most = held_most l.pages in
     let limit = l.pages_limit in
     record {
@@ -29,4 +29,4 @@ link-at-requires c =
 pub returns : goal.returns
 returns c =
     let b : Books = books_of c.args.ledger.now in
-    c.link-at.ensures ∙ ap (λ k. linked_at k c.args.page c.args.info.now.log_size b) (c.segment-id-n.ensures ∙ ap (λ o. o / b.size) c.lid.ensures)
+    c.link_at.ensures ∙ ap (λ k. linked_at k c.args.page c.args.info.now.log_size b) (c.segment_id-n.ensures ∙ ap (λ o. o / b.size) c.lid.ensures)

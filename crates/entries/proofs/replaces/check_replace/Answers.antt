@@ -9,7 +9,7 @@ pub returns : goal.returns
 returns c =
     let z = to_z-of_z w64 c.args.lsn c.ranges.lsn in
     record {
-      answer = replace_answer (books_of c.args.ledger.now) c.args.page c.args.lsn _ _ c.args.olds.now c.args.new.now c.check-blobs.result z z c.in_ok-check-call.ensures c.in_ok-check-link.ensures c.in_ok-check-sums.ensures.answer c.check-blobs.ensures.answer;
-      summed = made_any _ c.check-blobs.result c.check-sums.ensures.summed;
-      given = made_any _ c.check-blobs.result c.check-blobs.ensures.given;
+      answer = replace_answer (books_of c.args.ledger.now) c.args.page c.args.lsn _ _ c.args.olds.now c.args.new.now c.check_blobs.result z z c.in_ok-check_call.ensures c.in_ok-check_link.ensures c.in_ok-check_sums.ensures.answer c.check_blobs.ensures.answer;
+      summed = made_any _ c.check_blobs.result c.check_sums.ensures.summed;
+      given = made_any _ c.check_blobs.result c.check_blobs.ensures.given;
     }

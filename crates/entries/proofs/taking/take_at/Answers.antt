@@ -9,18 +9,18 @@ use Rattle.ledger.specs.Ledgers.{books_of, states}
 use Rattle.entries.proofs.Takes.{may_take_from, taken_states, taken_pages}
 use Rattle.entries.proofs.taking.take_at.Goals as goal
 
-pub remove-pid-leaves-requires : goal.remove-pid-leaves-requires
-remove-pid-leaves-requires c =
+pub remove_pid-leaves-requires : goal.remove_pid-leaves-requires
+remove_pid-leaves-requires c =
     let b = books_of c.args.ledger.now in
-    let s = c.take-out-segment.result in
-    let e = c.take-out-segment.ensures.state in
+    let s = c.take_out-segment.result in
+    let e = c.take_out-segment.ensures.state in
     may_take_from b c.args.n c.args.page c.args.base c.args.size s.state c.requires.reached (sym e) s.kept (subst (λ x. from_state b c.args.n c.args.page c.args.base c.args.size x ≡ None) (sym e) c.requires.passes) c.requires.counts
 
 pub returns : goal.returns
 returns c =
     let l = c.args.ledger.now in
     let z = to_z-of_z w64 c.args.base c.ranges.base in
-    let was = c.take-out-segment.ensures.state in
-    let segments = taken_states (states (vec_items l.segments)) _ _ c.args.n c.args.base _ c.args.size _ _ z was c.take-out-segment.ensures.states c.remove-pid-leaves.ensures.state c.write.ensures.states in
-    let pages = taken_pages (held l.pages) _ c.args.n c.args.page c.args.base _ _ _ _ z was c.remove-pid-leaves.ensures.left c.mark-if.ensures.rows in
+    let was = c.take_out-segment.ensures.state in
+    let segments = taken_states (states (vec_items l.segments)) _ _ c.args.n c.args.base _ c.args.size _ _ z was c.take_out-segment.ensures.states c.remove_pid-leaves.ensures.state c.write.ensures.states in
+    let pages = taken_pages (held l.pages) _ c.args.n c.args.page c.args.base _ _ _ _ z was c.remove_pid-leaves.ensures.left c.mark_if.ensures.rows in
     λ i. books l.segment_size (segments i) l.tip l.max_stabilized_lsn (held l.free) (held l.ordering) (pages i) (held l.blobs) (held l.freeable) (held l.listed) (held l.faults)

@@ -16,8 +16,8 @@ one_more n cap s l h k = let q : length (l ++ s ∷ []) ≤ cap = subst (λ x. l
 pub write-requires : goal.write-requires
 write-requires c = let l = as_many c.args.segments.now in let e = c.len.ensures in let h = c.if-n-len.true in omega arith
 
-pub push-reserved-requires : goal.push-reserved-requires
-push-reserved-requires c =
+pub push_reserved-requires : goal.push_reserved-requires
+push_reserved-requires c =
     let v = c.args.segments.now in
     let l = as_many v in
     let e = c.len.ensures in

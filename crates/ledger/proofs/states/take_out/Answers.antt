@@ -5,8 +5,8 @@ use Rattle.ledger.specs.Ledgers.{states}
 use Rattle.ledger.proofs.Reading.{reached, state_at}
 use Rattle.ledger.proofs.states.take_out.Goals as goal
 
-pub index-mut-requires : goal.index-mut-requires
-index-mut-requires c = reached c.args.segments.now c.args.i c.requires
+pub index_mut-requires : goal.index_mut-requires
+index_mut-requires c = reached c.args.segments.now c.args.i c.requires
 
 pub returns : goal.returns
 returns c =

@@ -4,8 +4,8 @@ use Rattle.std.proofs.lemmas.List.{map-set}
 use Rattle.ledger.proofs.Reading.{reached}
 use Rattle.ledger.proofs.states.write.Goals as goal
 
-pub index-mut-requires : goal.index-mut-requires
-index-mut-requires c = reached c.args.segments.now c.args.i c.requires
+pub index_mut-requires : goal.index_mut-requires
+index_mut-requires c = reached c.args.segments.now c.args.i c.requires
 
 pub returns : goal.returns
 returns c = record { states = map-set (λ s. s.state) (vec_items c.args.segments.now) c.args.i c.args.segment; cap = refl }

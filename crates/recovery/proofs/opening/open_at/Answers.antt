@@ -11,8 +11,8 @@ pub returns : goal.returns
 returns c =
     let all = states (vec_items c.args.segments.now) in
     let i = c.args.i in
-    let opens = c.opened.ensures ∙ (ap (λ z. opened_at z c.take-out-segment.result.state) (to_z-of_z w64 c.args.base c.ranges.base) ∙ ap (opened_at c.args.base) c.take-out-segment.ensures.state) in
+    let opens = c.opened.ensures ∙ (ap (λ z. opened_at z c.take_out-segment.result.state) (to_z-of_z w64 c.args.base c.ranges.base) ∙ ap (opened_at c.args.base) c.take_out-segment.ensures.state) in
     record {
-      states = c.write.ensures.states ∙ (ap (λ l. set l i c.opened.result.state) c.take-out-segment.ensures.states ∙ (set-set all i unused c.opened.result.state ∙ ap (set all i) opens));
-      cap = c.write.ensures.cap ∙ c.take-out-segment.ensures.cap;
+      states = c.write.ensures.states ∙ (ap (λ l. set l i c.opened.result.state) c.take_out-segment.ensures.states ∙ (set-set all i unused c.opened.result.state ∙ ap (set all i) opens));
+      cap = c.write.ensures.cap ∙ c.take_out-segment.ensures.cap;
     }

@@ -7,11 +7,11 @@ use Rattle.ledger.specs.Ledgers.{books_of}
 use Rattle.recovery.proofs.OrderWalks.{end_fits}
 use Rattle.recovery.proofs.ordering.order_all.Goals as goal
 
-pub order-segments-requires : goal.order-segments-requires
-order-segments-requires c =
+pub order_segments-requires : goal.order_segments-requires
+order_segments-requires c =
     let l = c.args.ledger.now in
     let b = books_of l in
-    let many : length c.as-slice.result.now ≡ length b.segments = ap length c.as-slice.ensures.value ∙ sym (length-map (vec_items l.segments) (λ s. s.state)) in
+    let many : length c.as_slice.result.now ≡ length b.segments = ap length c.as_slice.ensures.value ∙ sym (length-map (vec_items l.segments) (λ s. s.state)) in
     let few = leb-true _ _ c.requires.within.1.reached in
     let none : length (held l.ordering) ≡ 0 = ap length c.requires.ordering in
     let limit : limit_of l.ordering ≡ 256 = search rules in

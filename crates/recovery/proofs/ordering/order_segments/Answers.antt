@@ -9,18 +9,18 @@ use Rattle.recovery.specs.Outcomes.{outcome}
 use Rattle.recovery.proofs.OrderWalks.{state_read, order_more, order_stop, order_end, offset_fits}
 use Rattle.recovery.proofs.ordering.order_segments.Goals as goal
 
-pub overflow-mul-n : goal.overflow-mul-n
-overflow-mul-n c = let k = offset_fits c.loop-n.n (length c.args.segments.now) c.args.segment-size c.loop-n-test.true c.requires.fits in omega arith
+pub overflow_mul-n : goal.overflow_mul-n
+overflow_mul-n c = let k = offset_fits c.loop-n.n (length c.args.segments.now) c.args.segment_size c.loop-n-test.true c.requires.fits in omega arith
 
-pub returns-in-err-order-state : goal.returns-in-err-order-state
-returns-in-err-order-state c =
-    let p = err_from_is_err_and c.from-residual.result c.from-residual.ensures.1 in
+pub returns-in_err-order_state : goal.returns-in_err-order_state
+returns-in_err-order_state c =
+    let p = err_from_is_err_and c.from_residual.result c.from_residual.ensures.1 in
     let all = states c.args.segments.now in
     let n = c.loop-n.n in
-    let size = c.args.segment-size in
+    let size = c.args.segment_size in
     let low = subst (λ k. n < k) (sym (length-map c.args.segments.now (λ s. s.state))) c.loop-n-test.true in
     let state = state_read c.args.segments.now n c.index-segments-n.result c.loop-n-test.true in
-    let e = c.in-err-order-state.ensures in
+    let e = c.in_err-order_state.ensures in
     record {
       order = e.order;
       limit = e.limit ∙ c.loop-n.invariant.1;
@@ -31,10 +31,10 @@ pub loop-n-preserved : goal.loop-n-preserved
 loop-n-preserved c =
     let all = states c.args.segments.now in
     let n = c.loop-n.n in
-    let size = c.args.segment-size in
+    let size = c.args.segment_size in
     let low = subst (λ k. n < k) (sym (length-map c.args.segments.now (λ s. s.state))) c.loop-n-test.true in
     let state = state_read c.args.segments.now n c.index-segments-n.result c.loop-n-test.true in
-    let e = c.in_ok-order-state.ensures in
+    let e = c.in_ok-order_state.ensures in
     let m = e.more in
     let k = c.loop-n.invariant.2 in
     (e.order, e.limit ∙ c.loop-n.invariant.1, omega arith, order_more size n all (held c.loop-n.ordering) _ c.loop-n.invariant.3 (held c.order_state.new.ordering) low (e.rows ∙ ap (λ s. order_state (n * size) s (held c.loop-n.ordering)) state))
@@ -42,4 +42,4 @@ loop-n-preserved c =
 pub returns : goal.returns
 returns c =
     let past = subst (λ k. k ≤ c.loop-n.n) (sym (length-map c.args.segments.now (λ s. s.state))) c.loop-n-test.false in
-    record { order = c.loop-n.invariant.0; limit = c.loop-n.invariant.1; rows = order_end c.args.segment-size c.loop-n.n (states c.args.segments.now) (held c.loop-n.ordering) _ c.loop-n.invariant.3 past }
+    record { order = c.loop-n.invariant.0; limit = c.loop-n.invariant.1; rows = order_end c.args.segment_size c.loop-n.n (states c.args.segments.now) (held c.loop-n.ordering) _ c.loop-n.invariant.3 past }

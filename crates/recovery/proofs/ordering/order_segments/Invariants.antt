@@ -13,4 +13,4 @@ invariant-loop-n l =
     (ascending ordering_key int_cmp (held l.ordering) ≡ true)
     × (limit_of l.ordering ≡ limit_of l.initial.ordering)
     × (length (held l.ordering) ≤ length (held l.initial.ordering) + l.n)
-    × (order_all l.segment-size l.n (drop l.n (states l.segments)) (held l.ordering) ≡ order_all l.segment-size 0 (states l.segments) (held l.initial.ordering))
+    × (order_all l.segment_size l.n (drop l.n (states l.segments)) (held l.ordering) ≡ order_all l.segment_size 0 (states l.segments) (held l.initial.ordering))

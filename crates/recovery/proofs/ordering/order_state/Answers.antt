@@ -8,14 +8,14 @@ use Rattle.recovery.proofs.ordering.order_state.Goals as goal
 
 pub put-requires : goal.put-requires
 put-requires c =
-    let none = none_of _ (ap is_some (sym c.get.ensures) ∙ sym c.if-is-some.ensures) in
+    let none = none_of _ (ap is_some (sym c.get.ensures) ∙ sym c.if-is_some.ensures) in
     record { order = c.requires.order; room = room_for c.args.offset _ (held c.args.ordering.now) _ none c.requires.room }
 
 pub returns : goal.returns
 returns c =
     let rows = held c.args.ordering.now in
     let fits : SFits w64 c.in-Active.active.lsn = search rules in
-    let none = none_of _ (ap is_some (sym c.get.ensures) ∙ sym c.if-is-some.ensures) in
+    let none = none_of _ (ap is_some (sym c.get.ensures) ∙ sym c.if-is_some.ensures) in
     record {
       order = c.put.ensures.order;
       limit = c.put.ensures.limit;

@@ -12,20 +12,20 @@ use Rattle.recovery.proofs.placing.check_opened.Goals as goal
 pub index-requires : goal.index-requires
 index-requires c =
     let b = books_of c.args.ledger.now in
-    reached c.args.ledger.now.segments c.segment-id-n.result (subst (λ n. n < length b.segments) (sym (c.segment-id-n.ensures ∙ ap (segment_of b) c.lid.ensures)) c.requires.reached)
+    reached c.args.ledger.now.segments c.segment_id-n.result (subst (λ n. n < length b.segments) (sym (c.segment_id-n.ensures ∙ ap (segment_of b) c.lid.ensures)) c.requires.reached)
 
-pub check-state-requires : goal.check-state-requires
-check-state-requires c = c.index.result.now.kept
+pub check_state-requires : goal.check_state-requires
+check_state-requires c = c.index.result.now.kept
 
 pub returns : goal.returns
 returns c =
     let l = c.args.ledger.now in
     let b = books_of l in
     let row = c.args.row.now in
-    let at = c.segment-id-n.ensures ∙ ap (segment_of b) c.lid.ensures in
-    let low = reached l.segments c.segment-id-n.result (subst (λ n. n < length b.segments) (sym at) c.requires.reached) in
-    let state = state_at l.segments c.segment-id-n.result c.index.result.now low c.index.ensures ∙ ap (state_of b) at in
+    let at = c.segment_id-n.ensures ∙ ap (segment_of b) c.lid.ensures in
+    let low = reached l.segments c.segment_id-n.result (subst (λ n. n < length b.segments) (sym at) c.requires.reached) in
+    let state = state_at l.segments c.segment_id-n.result c.index.result.now low c.index.ensures ∙ ap (state_of b) at in
     let fits : SFits w64 row.lsn = search rules in
     let base-fits : SFits w64 c.base-base.result = search rules in
     let base = to_z-of_z w64 c.base-base.result base-fits ∙ (c.base-base.ensures ∙ ap (base_of b.size) (to_z-of_z w64 row.lsn fits)) in
-    c.check-state.ensures ∙ λ i. verdict (state_refusal (base i) (c.row-size-size.ensures i) (state i))
+    c.check_state.ensures ∙ λ i. verdict (state_refusal (base i) (c.row_size-size.ensures i) (state i))

@@ -9,8 +9,8 @@ use Rattle.recovery.proofs.Covering.{led_to, part_is}
 use Rattle.recovery.proofs.RowWalks.{page_in_range}
 use Rattle.recovery.proofs.recovering.recover_page.Goals as goal
 
-pub recover-rows-requires : goal.recover-rows-requires
-recover-rows-requires c =
+pub recover_rows-requires : goal.recover_rows-requires
+recover_rows-requires c =
     let d = c.args.directory.now in
     let rows = c.args.rows.now in
     let same = part_is d rows c.in-Some.part.now c.args.page c.requires.covered c.requires.listed c.in-Some.ensures in
@@ -19,7 +19,7 @@ recover-rows-requires c =
 pub returns-in-Some : goal.returns-in-Some
 returns-in-Some c =
     let same = part_is c.args.directory.now c.args.rows.now c.in-Some.part.now c.args.page c.requires.covered c.requires.listed c.in-Some.ensures in
-    record { books = c.recover_rows.ensures.books ∙ ap (λ l. recover_rows c.args.header-len c.args.page l (books_of c.args.ledger.now)) same; kept = c.recover_rows.ensures.kept }
+    record { books = c.recover_rows.ensures.books ∙ ap (λ l. recover_rows c.args.header_len c.args.page l (books_of c.args.ledger.now)) same; kept = c.recover_rows.ensures.kept }
 
 pub returns-in-None : goal.returns-in-None
 returns-in-None c = absurd (led_to c.args.directory.now c.args.rows.now c.args.page c.requires.covered c.requires.listed (sym c.in-None.ensures))

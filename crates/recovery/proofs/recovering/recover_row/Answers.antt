@@ -17,57 +17,57 @@ pub returns-then-n-len : goal.returns-then-n-len
 returns-then-n-len c =
     let l = c.args.ledger.now in
     let b = books_of l in
-    let at = c.segment-id-n.ensures ∙ ap (segment_of b) c.lid.ensures in
-    record { books = row_past c.args.header-len c.args.page c.args.row.now b (beyond l.segments _ _ _ at c.len.ensures c.if-n-len.true); kept = tt }
+    let at = c.segment_id-n.ensures ∙ ap (segment_of b) c.lid.ensures in
+    record { books = row_past c.args.header_len c.args.page c.args.row.now b (beyond l.segments _ _ _ at c.len.ensures c.if-n-len.true); kept = tt }
 
-pub open-for-requires : goal.open-for-requires
-open-for-requires c =
+pub open_for-requires : goal.open_for-requires
+open_for-requires c =
     let l = c.args.ledger.now in
     let b = books_of l in
-    let at = c.segment-id-n.ensures ∙ ap (segment_of b) c.lid.ensures in
+    let at = c.segment_id-n.ensures ∙ ap (segment_of b) c.lid.ensures in
     record { size = size_positive b c.requires.kept.within.1; lsn = c.requires.lsn; reached = among l.segments _ _ _ at c.len.ensures c.if-n-len.false }
 
-pub check-placed-requires : goal.check-placed-requires
-check-placed-requires c =
+pub check_placed-requires : goal.check_placed-requires
+check_placed-requires c =
     let l = c.args.ledger.now in
     let b = books_of l in
     let row = c.args.row.now in
-    let at = c.segment-id-n.ensures ∙ ap (segment_of b) c.lid.ensures in
+    let at = c.segment_id-n.ensures ∙ ap (segment_of b) c.lid.ensures in
     let low = among l.segments _ _ _ at c.len.ensures c.if-n-len.false in
-    let mid = c.open-for.ensures in
+    let mid = c.open_for.ensures in
     record {
       size = subst (λ (x : Books). 0 < x.size) (sym mid) (size_positive b c.requires.kept.within.1);
       lsn = c.requires.lsn;
-      reached = subst (λ (x : Books). row_segment x row < length x.segments) (sym mid) (row_reached c.args.header-len c.args.page row b low);
+      reached = subst (λ (x : Books). row_segment x row < length x.segments) (sym mid) (row_reached c.args.header_len c.args.page row b low);
     }
 
-pub returns-in-err-check-placed : goal.returns-in-err-check-placed
-returns-in-err-check-placed c =
+pub returns-in_err-check_placed : goal.returns-in_err-check_placed
+returns-in_err-check_placed c =
     let l = c.args.ledger.now in
     let b = books_of l in
     let row = c.args.row.now in
-    let at = c.segment-id-n.ensures ∙ ap (segment_of b) c.lid.ensures in
+    let at = c.segment_id-n.ensures ∙ ap (segment_of b) c.lid.ensures in
     let low = among l.segments _ _ _ at c.len.ensures c.if-n-len.false in
-    let mid = c.open-for.ensures in
-    let p = err_from_is_err_and c.from-residual.result c.from-residual.ensures.1 in
+    let mid = c.open_for.ensures in
+    let p = err_from_is_err_and c.from_residual.result c.from_residual.ensures.1 in
     record {
-      books = ap (λ r. outcome r (books_of c.open-for.new.ledger)) p.1 ∙ row_refused c.args.header-len c.args.page row b low p.0 (ap Err p.2 ∙ (c.in-err-check-placed.ensures ∙ ap (λ x. verdict (placed_refusal c.args.header-len c.args.page row x)) mid));
-      kept = subst (λ r. IfOk r (λ _. Recoverable (books_of c.open-for.new.ledger))) (sym p.1) tt;
+      books = ap (λ r. outcome r (books_of c.open_for.new.ledger)) p.1 ∙ row_refused c.args.header_len c.args.page row b low p.0 (ap Err p.2 ∙ (c.in_err-check_placed.ensures ∙ ap (λ x. verdict (placed_refusal c.args.header_len c.args.page row x)) mid));
+      kept = subst (λ r. IfOk r (λ _. Recoverable (books_of c.open_for.new.ledger))) (sym p.1) tt;
     }
 
-pub link-at-requires : goal.link-at-requires
-link-at-requires c =
+pub link_at-requires : goal.link_at-requires
+link_at-requires c =
     let l = c.args.ledger.now in
     let b = books_of l in
     let row = c.args.row.now in
-    let at = c.segment-id-n.ensures ∙ ap (segment_of b) c.lid.ensures in
+    let at = c.segment_id-n.ensures ∙ ap (segment_of b) c.lid.ensures in
     let low = among l.segments _ _ _ at c.len.ensures c.if-n-len.false in
-    let mid = c.open-for.ensures in
-    let none = row_passes c.args.header-len c.args.page row b low (c.in_ok-check-placed.ensures ∙ ap (λ x. verdict (placed_refusal c.args.header-len c.args.page row x)) mid) in
+    let mid = c.open_for.ensures in
+    let none = row_passes c.args.header_len c.args.page row b low (c.in_ok-check_placed.ensures ∙ ap (λ x. verdict (placed_refusal c.args.header_len c.args.page row x)) mid) in
     record {
-      reached = subst (λ (x : Books). c.segment-id-n.result < length x.segments) (sym mid) (subst (λ n. n < length (opened_for row b).segments) (sym at) (row_reached c.args.header-len c.args.page row b low));
-      room = subst (λ n. n ≤ 2048) (λ i. length (linked_at (sym at i) c.args.page (sym c.row_size.ensures i) (sym mid i)).pages) (row_room c.args.header-len c.args.page row b c.requires.lsn none c.requires.kept.within);
-      bytes = (λ i. bounded (linked_state (c.row_size.ensures i) (state_of (mid i) (at i)))) ∙ row_bytes c.args.header-len c.args.page row b c.requires.lsn low none c.requires.kept.within;
+      reached = subst (λ (x : Books). c.segment_id-n.result < length x.segments) (sym mid) (subst (λ n. n < length (opened_for row b).segments) (sym at) (row_reached c.args.header_len c.args.page row b low));
+      room = subst (λ n. n ≤ 2048) (λ i. length (linked_at (sym at i) c.args.page (sym c.row_size.ensures i) (sym mid i)).pages) (row_room c.args.header_len c.args.page row b c.requires.lsn none c.requires.kept.within);
+      bytes = (λ i. bounded (linked_state (c.row_size.ensures i) (state_of (mid i) (at i)))) ∙ row_bytes c.args.header_len c.args.page row b c.requires.lsn low none c.requires.kept.within;
     }
 
 pub returns : goal.returns
@@ -75,12 +75,12 @@ returns c =
     let l = c.args.ledger.now in
     let b = books_of l in
     let row = c.args.row.now in
-    let at = c.segment-id-n.ensures ∙ ap (segment_of b) c.lid.ensures in
+    let at = c.segment_id-n.ensures ∙ ap (segment_of b) c.lid.ensures in
     let low = among l.segments _ _ _ at c.len.ensures c.if-n-len.false in
-    let mid = c.open-for.ensures in
-    let none = row_passes c.args.header-len c.args.page row b low (c.in_ok-check-placed.ensures ∙ ap (λ x. verdict (placed_refusal c.args.header-len c.args.page row x)) mid) in
-    let all : books_of c.link-at.new.self ≡ after c.args.header-len c.args.page row b = c.link-at.ensures ∙ λ i. linked_at (at i) c.args.page (c.row_size.ensures i) (mid i) in
+    let mid = c.open_for.ensures in
+    let none = row_passes c.args.header_len c.args.page row b low (c.in_ok-check_placed.ensures ∙ ap (λ x. verdict (placed_refusal c.args.header_len c.args.page row x)) mid) in
+    let all : books_of c.link_at.new.self ≡ after c.args.header_len c.args.page row b = c.link_at.ensures ∙ λ i. linked_at (at i) c.args.page (c.row_size.ensures i) (mid i) in
     record {
-      books = ap Ok all ∙ row_done c.args.header-len c.args.page row b none;
-      kept = subst Recoverable (sym all) (row_kept c.args.header-len c.args.page row b c.requires.lsn none c.requires.kept);
+      books = ap Ok all ∙ row_done c.args.header_len c.args.page row b none;
+      kept = subst Recoverable (sym all) (row_kept c.args.header_len c.args.page row b c.requires.lsn none c.requires.kept);
     }

@@ -6,4 +6,4 @@ use Rattle.recovery.specs.Recoverable.{Recoverable}
 use Rattle.recovery.proofs.recovering.recover_rows.Given as goal
 
 abbrev pub invariant-loop-row : goal.invariant-loop-row
-invariant-loop-row l = Recoverable (books_of l.ledger) × (recover_rows l.header-len l.page (drop l.row-index l.rows) (books_of l.ledger) ≡ recover_rows l.header-len l.page l.rows (books_of l.initial.ledger))
+invariant-loop-row l = Recoverable (books_of l.ledger) × (recover_rows l.header_len l.page (drop l.row-index l.rows) (books_of l.ledger) ≡ recover_rows l.header_len l.page l.rows (books_of l.initial.ledger))

@@ -11,26 +11,26 @@ use Rattle.recovery.proofs.whole.recover_with.Goals as goal
 
 pub begin-requires : goal.begin-requires
 begin-requires c =
-    let p = plan_parts (plan_of c.args.segment-size c.args.header-len c.args.snapshot.now) c.args.count c.requires in
+    let p = plan_parts (plan_of c.args.segment_size c.args.header_len c.args.snapshot.now) c.args.count c.requires in
     record { size = p.size; few = p.few; stable = p.stable; reached = p.reached }
 
-pub recover-pages-requires : goal.recover-pages-requires
-recover-pages-requires c =
-    let p = plan_parts (plan_of c.args.segment-size c.args.header-len c.args.snapshot.now) c.args.count c.requires in
+pub recover_pages-requires : goal.recover_pages-requires
+recover_pages-requires c =
+    let p = plan_parts (plan_of c.args.segment_size c.args.header_len c.args.snapshot.now) c.args.count c.requires in
     record { kept = subst Recoverable (sym c.begin.ensures) p.kept; lsns = p.lsns; covered = p.covered }
 
-pub returns-in-err-recover-pages : goal.returns-in-err-recover-pages
-returns-in-err-recover-pages c =
-    let s = plan_of c.args.segment-size c.args.header-len c.args.snapshot.now in
-    let p = err_from_is_err_and c.from-residual.result c.from-residual.ensures.1 in
-    let e = ap Err p.2 ∙ (c.in-err-recover-pages.ensures.books ∙ ap (recover_pages s.header 0 s.directory s.rows) c.begin.ensures) in
+pub returns-in_err-recover_pages : goal.returns-in_err-recover_pages
+returns-in_err-recover_pages c =
+    let s = plan_of c.args.segment_size c.args.header_len c.args.snapshot.now in
+    let p = err_from_is_err_and c.from_residual.result c.from_residual.ensures.1 in
+    let e = ap Err p.2 ∙ (c.in_err-recover_pages.ensures.books ∙ ap (recover_pages s.header 0 s.directory s.rows) c.begin.ensures) in
     ap (λ r. outcome r (books_of c.recover_pages.new.ledger)) p.1 ∙ ap (λ o. and_then o ordered) e
 
-pub order-all-requires : goal.order-all-requires
-order-all-requires c = c.in_ok-recover-pages.ensures.kept
+pub order_all-requires : goal.order_all-requires
+order_all-requires c = c.in_ok-recover_pages.ensures.kept
 
 pub returns : goal.returns
 returns c =
-    let s = plan_of c.args.segment-size c.args.header-len c.args.snapshot.now in
-    let e = c.in_ok-recover-pages.ensures.books ∙ ap (recover_pages s.header 0 s.directory s.rows) c.begin.ensures in
+    let s = plan_of c.args.segment_size c.args.header_len c.args.snapshot.now in
+    let e = c.in_ok-recover_pages.ensures.books ∙ ap (recover_pages s.header 0 s.directory s.rows) c.begin.ensures in
     c.order_all.ensures ∙ ap (λ o. and_then o ordered) e

@@ -9,11 +9,11 @@ use Rattle.replacing.proofs.Visits.{taken_keeps}
 use Rattle.replacing.proofs.visiting.visit.Goals as goal
 
 pub clean-requires : goal.clean-requires
-clean-requires g c = taken_keeps (books_of c.args.world.now.ledger) _ c.args.sum.now.segment c.args.page c.args.base _ c.args.sum.now.size (to_z-of_z w64 c.args.base c.ranges.base) c.take-at.ensures c.requires.range c.requires.passes c.requires.kept
+clean-requires g c = taken_keeps (books_of c.args.world.now.ledger) _ c.args.sum.now.segment c.args.page c.args.base _ c.args.sum.now.size (to_z-of_z w64 c.args.base c.ranges.base) c.take_at.ensures c.requires.range c.requires.passes c.requires.kept
 
 pub returns : goal.returns
 returns g c =
     let b : Books = books_of c.args.world.now.ledger in
     let n = c.args.sum.now.segment in
     let z = to_z-of_z w64 c.args.base c.ranges.base in
-    c.clean.ensures ∙ ap (λ d. cleaned g.H.Host.respond n (world d (g.H.Host.model c.args.world.now.host))) (c.take-at.ensures ∙ ap (λ k. taken_at n c.args.page k c.args.sum.now.size b) z)
+    c.clean.ensures ∙ ap (λ d. cleaned g.H.Host.respond n (world d (g.H.Host.model c.args.world.now.host))) (c.take_at.ensures ∙ ap (λ k. taken_at n c.args.page k c.args.sum.now.size b) z)

@@ -10,20 +10,20 @@ use Rattle.starting.proofs.freeing.free_all.Goals as goal
 pub loop-n-init : goal.loop-n-init
 loop-n-init g c = (recovered_kept g.H.Host.respond (books_of c.args.world.now.ledger) c.requires, refl)
 
-pub free-state-requires : goal.free-state-requires
-free-state-requires g c =
+pub free_state-requires : goal.free_state-requires
+free_state-requires g c =
     let n = c.loop-n.n in
     let h = c.loop-n.invariant.0 in
     let low = subst (λ k. n < k) (c.len-n-end.ensures ∙ sym (as_many c.args.world.now.ledger.segments)) c.loop-n-test.true in
     record { reached = subst (λ l. n < length l) (sym h.1) low; kept = freed_kept g.H.Host.respond _ n (books_of c.loop-n.world.ledger) low h }
 
-pub returns-in-err-free-state : goal.returns-in-err-free-state
-returns-in-err-free-state g c =
+pub returns-in_err-free_state : goal.returns-in_err-free_state
+returns-in_err-free_state g c =
     let n = c.loop-n.n in
     let low = subst (λ k. n < k) (c.len-n-end.ensures ∙ sym (as_many c.args.world.now.ledger.segments)) c.loop-n-test.true in
-    let p = err_from_is_err_and c.from-residual.result c.from-residual.ensures.1 in
+    let p = err_from_is_err_and c.from_residual.result c.from_residual.ensures.1 in
     let v = seen g.H.Host.model c.free_state.new.world in
-    ap (λ r. (r, v)) p.1 ∙ free_stop g.H.Host.respond (books_of c.args.world.now.ledger).segments n (seen g.H.Host.model c.loop-n.world) _ c.loop-n.invariant.1 c.loop-n.invariant.0 low p.0 v (ap (λ f. (Err f, v)) p.2 ∙ c.in-err-free-state.ensures)
+    ap (λ r. (r, v)) p.1 ∙ free_stop g.H.Host.respond (books_of c.args.world.now.ledger).segments n (seen g.H.Host.model c.loop-n.world) _ c.loop-n.invariant.1 c.loop-n.invariant.0 low p.0 v (ap (λ f. (Err f, v)) p.2 ∙ c.in_err-free_state.ensures)
 
 pub loop-n-preserved : goal.loop-n-preserved
 loop-n-preserved g c =
@@ -32,7 +32,7 @@ loop-n-preserved g c =
     let states = (books_of c.args.world.now.ledger).segments in
     let w = seen g.H.Host.model c.loop-n.world in
     let v = seen g.H.Host.model c.free_state.new.world in
-    let e = c.in_ok-free-state.ensures in
+    let e = c.in_ok-free_state.ensures in
     (still_kept g.H.Host.respond states n w _ c.loop-n.invariant.1 c.loop-n.invariant.0 low _ v e, free_more g.H.Host.respond states n w _ c.loop-n.invariant.1 c.loop-n.invariant.0 low v e)
 
 pub returns : goal.returns

@@ -7,7 +7,7 @@ use Rattle.upkeep.specs.Worlds.{seen}
 use Rattle.starting.proofs.Frees.{freed_fits}
 use Rattle.starting.proofs.freeing.free_state.Goals as goal
 
-pub fill-at-requires : goal.fill-at-requires
-fill-at-requires g c =
+pub fill_at-requires : goal.fill_at-requires
+fill_at-requires g c =
     let t : is_free (state_of (books_of c.args.world.now.ledger) c.args.n) ≡ true = search rules in
     freed_fits g.H.Host.respond c.args.n (seen g.H.Host.model c.args.world.now) (seen g.H.Host.model c.free.new.self) c.requires.reached (c.requires.kept t) c.free.ensures

@@ -7,7 +7,7 @@ use Rattle.ledger.proofs.Handing.{numbers}
 use Rattle.upkeep.proofs.Reached.{state_bounded}
 use Rattle.upkeep.proofs.draining.is_drained.Goals as goal
 
-pub is-drained-state-requires : goal.is-drained-state-requires
-is-drained-state-requires c =
+pub is_drained_state-requires : goal.is_drained_state-requires
+is_drained_state-requires c =
     let b = books_of c.args.ledger.now in
     record { size = (numbers b c.requires.1).positive; bytes = subst (λ s. is_bounded s ≡ true) (sym c.in-Some.ensures.1) (state_bounded c.args.n b c.requires.1) }

@@ -8,17 +8,17 @@ use Rattle.ledger.proofs.Reading.{rewritten, still_reached}
 use Rattle.upkeep.proofs.Reached.{inactive_placed, listed_room}
 use Rattle.upkeep.proofs.draining.start_draining.Goals as goal
 
-pub take-out-requires : goal.take-out-requires
-take-out-requires c = (inactive_placed c.args.n (books_of c.args.ledger.now) c.requires.kept c.requires.inactive).reached
+pub take_out-requires : goal.take_out-requires
+take_out-requires c = (inactive_placed c.args.n (books_of c.args.ledger.now) c.requires.kept c.requires.inactive).reached
 
 pub write-requires : goal.write-requires
-write-requires c = still_reached (states (vec_items c.args.ledger.now.segments)) _ c.args.n _ c.take-out.ensures.states (inactive_placed c.args.n (books_of c.args.ledger.now) c.requires.kept c.requires.inactive).reached
+write-requires c = still_reached (states (vec_items c.args.ledger.now.segments)) _ c.args.n _ c.take_out.ensures.states (inactive_placed c.args.n (books_of c.args.ledger.now) c.requires.kept c.requires.inactive).reached
 
-pub queue-all-requires : goal.queue-all-requires
-queue-all-requires c = record { order = c.args.ledger.now.pages_up; small = (inactive_placed c.args.n (books_of c.args.ledger.now) c.requires.kept c.requires.inactive).small }
+pub queue_all-requires : goal.queue_all-requires
+queue_all-requires c = record { order = c.args.ledger.now.pages_up; small = (inactive_placed c.args.n (books_of c.args.ledger.now) c.requires.kept c.requires.inactive).small }
 
-pub overflow-mul-n : goal.overflow-mul-n
-overflow-mul-n c = let f = (inactive_placed c.args.n (books_of c.args.ledger.now) c.requires.kept c.requires.inactive).fits in omega arith
+pub overflow_mul-n : goal.overflow_mul-n
+overflow_mul-n c = let f = (inactive_placed c.args.n (books_of c.args.ledger.now) c.requires.kept c.requires.inactive).fits in omega arith
 
 pub put-requires : goal.put-requires
 put-requires c =
@@ -30,6 +30,6 @@ put-requires c =
 pub returns : goal.returns
 returns c i e =
     let l = c.args.ledger.now in
-    let segments = rewritten (states (vec_items l.segments)) _ _ c.args.n _ _ c.take-out.ensures.states c.write.ensures.states in
-    let state = c.drain-segment-segment.ensures i (c.take-out.ensures.state ∙ e) in
-    λ j. books l.segment_size ((segments ∙ ap (set (states (vec_items l.segments)) c.args.n) state) j) l.tip l.max_stabilized_lsn (held l.free) (held l.ordering) (c.queue-all.ensures.rows j) (held l.blobs) (held l.freeable) (c.put.ensures.rows j) (held l.faults)
+    let segments = rewritten (states (vec_items l.segments)) _ _ c.args.n _ _ c.take_out.ensures.states c.write.ensures.states in
+    let state = c.drain_segment-segment.ensures i (c.take_out.ensures.state ∙ e) in
+    λ j. books l.segment_size ((segments ∙ ap (set (states (vec_items l.segments)) c.args.n) state) j) l.tip l.max_stabilized_lsn (held l.free) (held l.ordering) (c.queue_all.ensures.rows j) (held l.blobs) (held l.freeable) (c.put.ensures.rows j) (held l.faults)

@@ -9,17 +9,17 @@ use Rattle.rules.specs.Stabilizing.{remove_blobs, removed_by}
 use Rattle.upkeep.proofs.Folds.{fold_more, fold_stop, fold_end}
 use Rattle.upkeep.proofs.stabilizing.remove_blobs.Goals as goal
 
-pub returns-in-err-remove : goal.returns-in-err-remove
-returns-in-err-remove g c =
+pub returns-in_err-remove : goal.returns-in_err-remove
+returns-in_err-remove g c =
     let respond = g.H.Host.respond in
     let m = g.H.Host.model c.loop-row.host in
     let t = g.H.Host.model c.remove.new.self in
     let row : BlobRow = get_or c.args.rows.now c.loop-row.row-index (blob_row 0 (pos 0)) in
     let fits : SFits w64 row.blob = search rules in
-    let e : respond m (asked_remove row.blob) ≡ (Err c.in-err-remove.field-0.0, t) = ap (λ z. respond m (asked_remove z)) (sym (to_z-of_z w64 row.blob fits)) ∙ (sym c.remove.ensures ∙ ap (λ r. (r, t)) c.in-err-remove.was) in
-    let p = err_from_is_err_and c.from-residual.result c.from-residual.ensures.1 in
+    let e : respond m (asked_remove row.blob) ≡ (Err c.in_err-remove.field-0.0, t) = ap (λ z. respond m (asked_remove z)) (sym (to_z-of_z w64 row.blob fits)) ∙ (sym c.remove.ensures ∙ ap (λ r. (r, t)) c.in_err-remove.was) in
+    let p = err_from_is_err_and c.from_residual.result c.from_residual.ensures.1 in
     ap (λ r. (r, t)) (p.1 ∙ ap Err p.2)
-    ∙ fold_stop (remove_blobs respond) (λ row m. respond m (asked_remove row.blob)) (removed_by respond) (λ s. refl) (λ x xs s. refl) (λ f s. refl) (λ f e s. refl) c.args.rows.now c.loop-row.row-index m _ c.loop-row.invariant (blob_row 0 (pos 0)) c.in-err-remove.field-0.0 t c.loop-row-test.true e
+    ∙ fold_stop (remove_blobs respond) (λ row m. respond m (asked_remove row.blob)) (removed_by respond) (λ s. refl) (λ x xs s. refl) (λ f s. refl) (λ f e s. refl) c.args.rows.now c.loop-row.row-index m _ c.loop-row.invariant (blob_row 0 (pos 0)) c.in_err-remove.field-0.0 t c.loop-row-test.true e
 
 pub loop-row-preserved : goal.loop-row-preserved
 loop-row-preserved g c =

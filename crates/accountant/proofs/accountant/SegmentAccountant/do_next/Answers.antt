@@ -11,16 +11,16 @@ use Rattle.ledger.specs.Ledgers.{books_of}
 use Rattle.accountant.proofs.Keeping.{taken_out, put_in}
 use Rattle.accountant.proofs.accountant.SegmentAccountant.do_next.Goals as goal
 
-pub next-at-requires : goal.next-at-requires
-next-at-requires g c =
+pub next_at-requires : goal.next_at-requires
+next_at-requires g c =
     let a = c.args.self.now in
-    record { lsn = sym c.if-out-of-range.ensures; kept = taken_out a.started (books_of a.world.ledger) c.if-not-self.false a.kept }
+    record { lsn = sym c.if-out_of_range.ensures; kept = taken_out a.started (books_of a.world.ledger) c.if-not-self.false a.kept }
 
 pub invariant-of-self : goal.invariant-of-self
 invariant-of-self g c =
     let a = c.args.self.now in
     let b : Books = books_of a.world.ledger in
     let lsn = to_z-of_z w64 c.args.lsn c.ranges.lsn in
-    let in_range : out_of_range c.args.lsn ≡ false = ap out_of_range (sym lsn) ∙ sym c.if-out-of-range.ensures in
+    let in_range : out_of_range c.args.lsn ≡ false = ap out_of_range (sym lsn) ∙ sym c.if-out_of_range.ensures in
     let after = ap (λ o. o.1) c.next_at.ensures ∙ ap (λ l. (next_at l b).1) lsn in
     (put_in a.started _ (subst Shared (sym after) (next_keeps share_steps c.args.lsn b in_range (taken_out a.started b c.if-not-self.false a.kept))), tt)

@@ -8,8 +8,8 @@ use Rattle.ledger.specs.Ledgers.{books_of}
 use Rattle.accountant.proofs.Keeping.{taken_out, put_in}
 use Rattle.accountant.proofs.accountant.SegmentAccountant.do_pop.Goals as goal
 
-pub pop-page-requires : goal.pop-page-requires
-pop-page-requires g c =
+pub pop_page-requires : goal.pop_page-requires
+pop_page-requires g c =
     let a = c.args.self.now in
     (taken_out a.started (books_of a.world.ledger) c.if-not-self.false a.kept).whole.counting.within
 
@@ -17,4 +17,4 @@ pub invariant-of-self : goal.invariant-of-self
 invariant-of-self g c =
     let a = c.args.self.now in
     let b : Books = books_of a.world.ledger in
-    (put_in a.started _ (subst Shared (sym (ap (λ o. o.1) c.pop-page.ensures)) (popped_keeps share_steps b (taken_out a.started b c.if-not-self.false a.kept))), tt)
+    (put_in a.started _ (subst Shared (sym (ap (λ o. o.1) c.pop_page.ensures)) (popped_keeps share_steps b (taken_out a.started b c.if-not-self.false a.kept))), tt)

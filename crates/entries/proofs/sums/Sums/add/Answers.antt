@@ -11,5 +11,5 @@ put-requires c =
     let s = c.args.self.now in
     let limit = s.limit in
     let room = c.requires.room in
-    let more = length_insert sum_key nat_cmp (held s.rows) (sum_row c.args.n (c.size-in.result + c.args.size)) in
+    let more = length_insert sum_key nat_cmp (held s.rows) (sum_row c.args.n (c.size_in.result + c.args.size)) in
     record { order = s.up; room = omega (arith, more, room, limit) }

@@ -9,8 +9,8 @@ use Rattle.entries.proofs.sums.Sums.sum_up.Goals as goal
 pub loop-old-init : goal.loop-old-init
 loop-old-init c = summed_none (books_of c.args.ledger.now) c.args.olds.now _ c.clear.ensures
 
-pub add-old-requires : goal.add-old-requires
-add-old-requires c =
+pub add_old-requires : goal.add_old-requires
+add_old-requires c =
     let l = c.loop-old-test.true in
     let few = c.requires.few in
     let s = c.loop-old.invariant in
@@ -18,7 +18,7 @@ add-old-requires c =
     record { size = c.requires.size; fits = f; room = omega (arith, l, few, s.1) }
 
 pub loop-old-preserved : goal.loop-old-preserved
-loop-old-preserved c = summed_more (books_of c.args.ledger.now) c.args.olds.now c.loop-old.old-index _ (held c.loop-old.self.rows) _ c.requires.small c.loop-old-test.true c.loop-old.invariant c.add-old.ensures
+loop-old-preserved c = summed_more (books_of c.args.ledger.now) c.args.olds.now c.loop-old.old-index _ (held c.loop-old.self.rows) _ c.requires.small c.loop-old-test.true c.loop-old.invariant c.add_old.ensures
 
 pub returns : goal.returns
 returns c = summed_end (books_of c.args.ledger.now) c.args.olds.now c.loop-old.old-index (held c.loop-old.self.rows) c.loop-old-test.false c.loop-old.invariant

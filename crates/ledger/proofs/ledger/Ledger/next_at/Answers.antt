@@ -12,8 +12,8 @@ use Rattle.ledger.proofs.Handing.{numbers, offered_same, handed_rooms}
 use Rattle.ledger.proofs.ledger.Ledger.next_at.Goals as goal
 use Rattle.std.specs.Ordering.{int_cmp}
 
-pub hand-out-requires : goal.hand-out-requires
-hand-out-requires c =
+pub hand_out-requires : goal.hand_out-requires
+hand_out-requires c =
     let lsn = c.args.lsn in
     let z = to_z-of_z w64 lsn c.ranges.lsn in
     let b : Books = books_of c.args.self.now in
@@ -21,7 +21,7 @@ hand-out-requires c =
     let offset = c.in_ok-offset.offset in
     let at : c.position-at.result ≡ nat_abs lsn = c.position-at.ensures ∙ ap nat_abs z in
     let u : unaligned b.size lsn ≡ false = ap not (eq-eqb (nat_abs lsn % b.size) 0 (ap (λ n. n % b.size) (sym at) ∙ c.if-at-self-ne0.false)) in
-    let i : in_use b lsn ≡ false = ap (λ k. is_some (find ordering_key int_cmp b.ordering k)) (sym z) ∙ (ap is_some (sym c.get.ensures) ∙ (sym c.is-some.ensures ∙ c.if-is-some.false)) in
+    let i : in_use b lsn ≡ false = ap (λ k. is_some (find ordering_key int_cmp b.ordering k)) (sym z) ∙ (ap is_some (sym c.get.ensures) ∙ (sym c.is_some.ensures ∙ c.if-is_some.false)) in
     let e : offered b b.free ≡ (Ok offset, d) = sym c.offered.ensures ∙ ap (λ r. (r, d)) c.in_ok-offset.was in
     let q : ltb (nat_abs lsn) offset ≡ false = le-ltb (nat_abs lsn) offset (subst (λ n. offset ≤ n) at c.if-at-offset.false) in
     let r = handed_rooms lsn offset b d c.requires.lsn u i e q c.requires.kept in

@@ -12,8 +12,8 @@ use Rattle.ledger.proofs.ledger.Ledger.put_free.Goals as goal
 pub index-requires : goal.index-requires
 index-requires c = reached c.args.self.now.segments c.args.n c.requires.reached
 
-pub overflow-add-n : goal.overflow-add-n
-overflow-add-n c = omega (arith, c.requires.small)
+pub overflow_add-n : goal.overflow_add-n
+overflow_add-n c = omega (arith, c.requires.small)
 
 pub returns : goal.returns
 returns c =

@@ -9,8 +9,8 @@ use Rattle.ledger.specs.Ledgers.{books_of}
 use Rattle.upkeep.specs.Worlds.{seen}
 use Rattle.upkeep.proofs.world.World.clean.Goals as goal
 
-pub free-if-left-requires : goal.free-if-left-requires
-free-if-left-requires g c = subst Shared (sym c.drain_if_empty.ensures) (drain_keeps g.H.Host.respond share_steps c.args.n (books_of c.args.self.now.ledger) c.requires)
+pub free_if_left-requires : goal.free_if_left-requires
+free_if_left-requires g c = subst Shared (sym c.drain_if_empty.ensures) (drain_keeps g.H.Host.respond share_steps c.args.n (books_of c.args.self.now.ledger) c.requires)
 
 pub returns : goal.returns
 unfolding cleaned

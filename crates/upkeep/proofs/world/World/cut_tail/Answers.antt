@@ -8,8 +8,8 @@ use Rattle.upkeep.specs.Worlds.{seen}
 use Rattle.upkeep.proofs.Cuts.{tip_enough, tail_step, tail_end, fewer}
 use Rattle.upkeep.proofs.world.World.cut_tail.Goals as goal
 
-pub can-cut-requires : goal.can-cut-requires
-can-cut-requires g c = tip_enough (books_of c.loop-self.self.ledger) c.loop-self.invariant.0.1
+pub can_cut-requires : goal.can_cut-requires
+can_cut-requires g c = tip_enough (books_of c.loop-self.self.ledger) c.loop-self.invariant.0.1
 
 pub loop-self-smaller : goal.loop-self-smaller
 loop-self-smaller g c =

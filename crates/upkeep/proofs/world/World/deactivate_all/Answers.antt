@@ -17,18 +17,18 @@ no_row = record { lsn = pos 0; offset = 0 }
 pub deactivate-requires : goal.deactivate-requires
 deactivate-requires g c = c.loop-row.invariant.0
 
-pub returns-in-err-deactivate : goal.returns-in-err-deactivate
+pub returns-in_err-deactivate : goal.returns-in_err-deactivate
 unfolding deactivate_all no_row
-returns-in-err-deactivate g c =
+returns-in_err-deactivate g c =
     let respond = g.H.Host.respond in
     let w = seen g.H.Host.model c.loop-row.self in
     let t = seen g.H.Host.model c.deactivate.new.self in
     let row : OrderingRow = get_or c.args.rows.now c.loop-row.row-index no_row in
     let fits : SFits w64 row.lsn = search rules in
-    let e : deactivated respond row.lsn w ≡ (Err c.in-err-deactivate.field-0.0, t) = ap (λ z. deactivated respond z w) (sym (to_z-of_z w64 row.lsn fits)) ∙ (sym c.deactivate.ensures ∙ ap (λ r. (r, t)) c.in-err-deactivate.was) in
-    let p = err_from_is_err_and c.from-residual.result c.from-residual.ensures.1 in
+    let e : deactivated respond row.lsn w ≡ (Err c.in_err-deactivate.field-0.0, t) = ap (λ z. deactivated respond z w) (sym (to_z-of_z w64 row.lsn fits)) ∙ (sym c.deactivate.ensures ∙ ap (λ r. (r, t)) c.in_err-deactivate.was) in
+    let p = err_from_is_err_and c.from_residual.result c.from_residual.ensures.1 in
     ap (λ r. (r, t)) (p.1 ∙ ap Err p.2)
-    ∙ fold_stop (deactivate_all respond) (λ row w. deactivated respond row.lsn w) (then_deactivated respond) (λ s. refl) (λ x xs s. refl) (λ f s. refl) (λ f e s. refl) c.args.rows.now c.loop-row.row-index w _ c.loop-row.invariant.1 no_row c.in-err-deactivate.field-0.0 t c.loop-row-test.true e
+    ∙ fold_stop (deactivate_all respond) (λ row w. deactivated respond row.lsn w) (then_deactivated respond) (λ s. refl) (λ x xs s. refl) (λ f s. refl) (λ f e s. refl) c.args.rows.now c.loop-row.row-index w _ c.loop-row.invariant.1 no_row c.in_err-deactivate.field-0.0 t c.loop-row-test.true e
 
 pub loop-row-preserved : goal.loop-row-preserved
 unfolding deactivate_all no_row

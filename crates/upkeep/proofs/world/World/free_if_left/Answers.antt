@@ -16,7 +16,7 @@ pub hold-requires : goal.hold-requires
 hold-requires g c =
     let b : Books = books_of c.args.self.now.ledger in
     let latest = c.in-Some.latest in
-    let x = emptied_of (state_of b c.args.n) latest (sym c.all-left.ensures ∙ c.in-Some.is) in
+    let x = emptied_of (state_of b c.args.n) latest (sym c.all_left.ensures ∙ c.in-Some.is) in
     let fits : SFits w64 latest = search rules in
     let ends : SFits w64 c.empty-lsn.result = search rules in
     let h : holder b latest ≡ Some c.in-Some-holder.t = ap (holder b) (sym (to_z-of_z w64 latest fits)) ∙ (sym c.holder-holder.ensures ∙ c.in-Some-holder.is) in
@@ -28,7 +28,7 @@ pub free-requires : goal.free-requires
 free-requires g c =
     let b : Books = books_of c.args.self.now.ledger in
     let latest = c.in-Some.latest in
-    let x = emptied_of (state_of b c.args.n) latest (sym c.all-left.ensures ∙ c.in-Some.is) in
+    let x = emptied_of (state_of b c.args.n) latest (sym c.all_left.ensures ∙ c.in-Some.is) in
     let fits : SFits w64 latest = search rules in
     let h : holder b latest ≡ None = ap (holder b) (sym (to_z-of_z w64 latest fits)) ∙ (sym c.holder-holder.ensures ∙ c.in-None.is) in
     let e = (c.empty-lsn.ensures x.draining x.is_it).0 in
@@ -39,7 +39,7 @@ pub returns-in-Some-holder : goal.returns-in-Some-holder
 returns-in-Some-holder g c =
     let b : Books = books_of c.args.self.now.ledger in
     let latest = c.in-Some.latest in
-    let x = emptied_of (state_of b c.args.n) latest (sym c.all-left.ensures ∙ c.in-Some.is) in
+    let x = emptied_of (state_of b c.args.n) latest (sym c.all_left.ensures ∙ c.in-Some.is) in
     let fits : SFits w64 latest = search rules in
     let ends : SFits w64 c.empty-lsn.result = search rules in
     let h : holder b latest ≡ Some c.in-Some-holder.t = ap (holder b) (sym (to_z-of_z w64 latest fits)) ∙ (sym c.holder-holder.ensures ∙ c.in-Some-holder.is) in
@@ -52,7 +52,7 @@ pub returns-in-None : goal.returns-in-None
 returns-in-None g c =
     let b : Books = books_of c.args.self.now.ledger in
     let latest = c.in-Some.latest in
-    let x = emptied_of (state_of b c.args.n) latest (sym c.all-left.ensures ∙ c.in-Some.is) in
+    let x = emptied_of (state_of b c.args.n) latest (sym c.all_left.ensures ∙ c.in-Some.is) in
     let fits : SFits w64 latest = search rules in
     let h : holder b latest ≡ None = ap (holder b) (sym (to_z-of_z w64 latest fits)) ∙ (sym c.holder-holder.ensures ∙ c.in-None.is) in
     let e = (c.empty-lsn.ensures x.draining x.is_it).0 in

@@ -15,9 +15,9 @@ pub free-requires : goal.free-requires
 free-requires g c =
     let b : Books = books_of c.args.self.now.ledger in
     let fits : SFits w64 c.args.row.lsn = search rules in
-    let n : c.number-of-lsn-n.result ≡ number_of_lsn b c.args.row.lsn = c.number-of-lsn-n.ensures ∙ ap (number_of_lsn b) (to_z-of_z w64 c.args.row.lsn fits) in
-    let e = c.drop-freeable.ensures in
+    let n : c.number_of_lsn-n.result ≡ number_of_lsn b c.args.row.lsn = c.number_of_lsn-n.ensures ∙ ap (number_of_lsn b) (to_z-of_z w64 c.args.row.lsn fits) in
+    let e = c.drop_freeable.ensures in
     record {
-      reached = subst (λ d. c.number-of-lsn-n.result < length d.segments) (sym e) (subst (λ k. k < length b.segments) (sym n) (released_reached c.args.row b c.requires.there c.requires.kept));
-      kept = subst (λ d. KeptWithin (put_free c.number-of-lsn-n.result d)) (sym e) (subst (λ k. KeptWithin (put_free k (with_freeable (remove_row freeable_key by_signed b.freeable (c.args.row.segment, c.args.row.lsn)) b))) (sym n) (released_kept c.args.row b c.requires.there c.requires.kept));
+      reached = subst (λ d. c.number_of_lsn-n.result < length d.segments) (sym e) (subst (λ k. k < length b.segments) (sym n) (released_reached c.args.row b c.requires.there c.requires.kept));
+      kept = subst (λ d. KeptWithin (put_free c.number_of_lsn-n.result d)) (sym e) (subst (λ k. KeptWithin (put_free k (with_freeable (remove_row freeable_key by_signed b.freeable (c.args.row.segment, c.args.row.lsn)) b))) (sym n) (released_kept c.args.row b c.requires.there c.requires.kept));
     }
