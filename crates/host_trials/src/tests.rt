@@ -116,9 +116,9 @@ fn the_first_blobs_are_held(rt: HostRuntime) -> Result<(), Fail> {
     list[1023] = 8;
     list[1024] = 10;
     let mut host = MemoryHost::new(rt.alloc(), 512, 0, &list)?;
-    assert!(rt; host.held_blobs() == [Blob(-9), Blob(7), Blob(8)]);
+    assert!(rt; host.held_blobs() == [Blob(-9), Blob(7), Blob(8)].as_slice());
     host.remove(7)?;
     host.remove(10)?;
-    assert!(rt; host.held_blobs() == [Blob(-9), Blob(8)]);
+    assert!(rt; host.held_blobs() == [Blob(-9), Blob(8)].as_slice());
     Ok(())
 }

@@ -7,7 +7,7 @@ use Rattle.recovery.proofs.blanks.fill_unused.Goals as goal
 
 pub loop-i-preserved : goal.loop-i-preserved
 loop-i-preserved c = (
-  ap states c.push_reserved.ensures.items ∙ (map_push (λ s. s.state) (vec_items c.loop-i.segments) _ ∙ (ap (λ l. l ++ unused ∷ []) c.loop-i.invariant.0 ∙ replicate_more c.loop-i.-i unused)),
+  ap states c.push_reserved.ensures.items ∙ (map_push (λ s. s.state) (vec_items c.loop-i.segments) _ ∙ (ap (λ l. l ++ unused ∷ []) c.loop-i.invariant.0 ∙ replicate_more c.loop-i._i unused)),
   search rules,
   search rules,
 )

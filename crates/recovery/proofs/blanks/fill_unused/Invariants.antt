@@ -5,4 +5,4 @@ use Rattle.ledger.specs.Ledgers.{states}
 use Rattle.recovery.proofs.blanks.fill_unused.Given as goal
 
 abbrev pub invariant-loop-i : goal.invariant-loop-i
-invariant-loop-i l = (states (vec_items l.segments) ≡ replicate l.-i unused) × (vec_len l.segments ≡ l.-i) × (vec_capacity l.segments ≡ vec_capacity l.initial.segments)
+invariant-loop-i l = (states (vec_items l.segments) ≡ replicate l._i unused) × (vec_len l.segments ≡ l._i) × (vec_capacity l.segments ≡ vec_capacity l.initial.segments)
