@@ -6,7 +6,9 @@ use Rattle.std.proofs.lemmas.List.{length-take}
 use Rattle.std.proofs.lemmas.Int.{ints}
 use Rattle.table.specs.Held.{held, limit_of}
 use Rattle.table.specs.Ranges.{inside, between}
+use Rattle.table.specs.declared.key.Key.{Ghosts as KeyGhosts}
 use Rattle.table.specs.declared.owner.Table.{Table}
+use Rattle.table.specs.declared.row.Row.{Ghosts as RowGhosts}
 use Rattle.table.proofs.Filters.{kept_same}
 use Rattle.segment.specs.Rows.{ordering_key}
 use Rattle.segment.specs.declared.rows.OrderingRow.{OrderingRow}
@@ -14,7 +16,7 @@ use Rattle.rules.specs.Stabilizing.{ripe}
 use Rattle.orders.proofs.Every.{kept_most}
 
 -- a table holds at most as many rows as it may
-pub held_most : {X K : Type 0} (t : Table X K) → length (held t) ≤ limit_of t
+pub held_most : {X K : Type 0} {r : RowGhosts X K} {k : KeyGhosts K} (t : Table X K r k) → length (held t) ≤ limit_of t
 held_most t = let m = length-take t.len (vec_items t.places) in omega (arith, t.below)
 
 -- a range has at most as many rows as there are

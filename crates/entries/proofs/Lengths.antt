@@ -6,11 +6,13 @@ use Rattle.std.proofs.lemmas.Bool.{and_parts}
 use Rattle.table.specs.Held.{held, limit_of}
 use Rattle.table.specs.Order.{Lawful}
 use Rattle.table.specs.Rows.{by, every, find, put_by, insert_row, ascending, towards}
+use Rattle.table.specs.declared.key.Key.{Ghosts as KeyGhosts}
 use Rattle.table.specs.declared.owner.Table.{Table}
+use Rattle.table.specs.declared.row.Row.{Ghosts as RowGhosts}
 use Rattle.table.proofs.Laws.{length_insert_old, find_key}
 use Rattle.table.proofs.Orders.{every_at, less_from}
 
-pub held_most : {X K : Type 0} (t : Table X K) → length (held t) ≤ limit_of t
+pub held_most : {X K : Type 0} {r : RowGhosts X K} {k : KeyGhosts K} (t : Table X K r k) → length (held t) ≤ limit_of t
 held_most t =
     let below = t.below in
     let as_many = t.places.ok.0 in

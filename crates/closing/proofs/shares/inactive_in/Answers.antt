@@ -6,7 +6,7 @@ use Rattle.rules.specs.Stabilizing.{is_inactive}
 use Rattle.ledger.specs.Ledgers.{states}
 use Rattle.closing.proofs.Sharing.{count_more}
 use Rattle.closing.proofs.shares.inactive_in.Goals as goal
-use Rattle.closing.proofs.shares.inactive_in.Goals.{then-is-inactive, else-is-inactive}
+use Rattle.closing.proofs.shares.inactive_in.Goals.{then-is_inactive, else-is_inactive}
 
 pub loop-segment-preserved : goal.loop-segment-preserved
 loop-segment-preserved c =

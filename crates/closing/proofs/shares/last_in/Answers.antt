@@ -7,7 +7,7 @@ use Rattle.ledger.specs.Ledgers.{states}
 use Rattle.closing.specs.Shares.{number_from}
 use Rattle.closing.proofs.Sharing.{state_there, there, found_more, found_last}
 use Rattle.closing.proofs.shares.last_in.Goals as goal
-use Rattle.closing.proofs.shares.last_in.Goals.{then-is-inactive, else-is-inactive}
+use Rattle.closing.proofs.shares.last_in.Goals.{then-is_inactive, else-is_inactive}
 
 pub loop-i-preserved : goal.loop-i-preserved
 loop-i-preserved c =

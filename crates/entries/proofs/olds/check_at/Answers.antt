@@ -6,9 +6,9 @@ use Rattle.entries.proofs.Accepted.{info_small}
 use Rattle.entries.proofs.AsLinked.{own_answer, other_answer, past_answer}
 use Rattle.entries.proofs.olds.check_at.Goals as goal
 
-pub returns-in-default : goal.returns-in-default
-returns-in-default c =
-    let past = c.in-default.ensures in
+pub returns-in_default : goal.returns-in_default
+returns-in_default c =
+    let past = c.in_default.ensures in
     past_answer (books_of c.args.ledger.now) c.args.page c.args.new.now c.requires.accepted c.args.old.now.segment c.args.base c.args.old.now.size past.0 past.1
 
 pub check_old-requires : goal.check_old-requires

@@ -7,8 +7,8 @@ use Rattle.recovery.proofs.snapshots.covers.Goals as goal
 pub returns-then-entry-at : goal.returns-then-entry-at
 returns-then-entry-at c = covers_other _ c.args.rows c.loop-entry.entry-index no_entry c.loop-entry.at c.loop-entry.invariant c.loop-entry-test.true c.if-entry-at.true
 
-pub returns-in-default : goal.returns-in-default
-returns-in-default c =
+pub returns-in_default : goal.returns-in_default
+returns-in_default c =
     let over : c.args.rows < c.loop-entry.at + (get_or c.args.directory.now c.loop-entry.entry-index no_entry).count = search rules in
     covers_over _ c.args.rows c.loop-entry.entry-index no_entry c.loop-entry.at c.loop-entry.invariant c.loop-entry-test.true over
 

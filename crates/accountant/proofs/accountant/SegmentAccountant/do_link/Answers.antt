@@ -4,8 +4,8 @@ use Rattle.accountant.proofs.accountant.SegmentAccountant.do_link.Goals as goal
 pub link-requires : goal.link-requires
 link-requires g c = ?
 
-pub invariant-of-self : goal.invariant-of-self
-invariant-of-self g c = ?
+pub invariant_of-self : goal.invariant_of-self
+invariant_of-self g c = ?
 
 pub returns : goal.returns
 returns g c = ?

@@ -16,8 +16,8 @@ next_at-requires g c =
     let a = c.args.self.now in
     record { lsn = sym c.if-out_of_range.ensures; kept = taken_out a.started (books_of a.world.ledger) c.if-not-self.false a.kept }
 
-pub invariant-of-self : goal.invariant-of-self
-invariant-of-self g c =
+pub invariant_of-self : goal.invariant_of-self
+invariant_of-self g c =
     let a = c.args.self.now in
     let b : Books = books_of a.world.ledger in
     let lsn = to_z-of_z w64 c.args.lsn c.ranges.lsn in

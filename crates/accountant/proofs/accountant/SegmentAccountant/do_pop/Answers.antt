@@ -13,8 +13,8 @@ pop_page-requires g c =
     let a = c.args.self.now in
     (taken_out a.started (books_of a.world.ledger) c.if-not-self.false a.kept).whole.counting.within
 
-pub invariant-of-self : goal.invariant-of-self
-invariant-of-self g c =
+pub invariant_of-self : goal.invariant_of-self
+invariant_of-self g c =
     let a = c.args.self.now in
     let b : Books = books_of a.world.ledger in
     (put_in a.started _ (subst Shared (sym (ap (λ o. o.1) c.pop_page.ensures)) (popped_keeps share_steps b (taken_out a.started b c.if-not-self.false a.kept))), tt)

@@ -17,8 +17,8 @@ stabilize-requires g c =
     let a = c.args.self.now in
     record { lsn = sym c.if-is_outside.ensures; kept = taken_out a.started (books_of a.world.ledger) c.if-not-self.false a.kept }
 
-pub invariant-of-self : goal.invariant-of-self
-invariant-of-self g c =
+pub invariant_of-self : goal.invariant_of-self
+invariant_of-self g c =
     let a = c.args.self.now in
     let w = seen g.H.Host.model a.world in
     let lsn = to_z-of_z w64 c.args.lsn c.ranges.lsn in

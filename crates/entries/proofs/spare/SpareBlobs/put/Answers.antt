@@ -17,8 +17,8 @@ put-requires c =
     let more = length_insert blob_key by_signed (held s.rows) c.args.row in
     record { order = s.up; room = omega (arith, more, room, limit) }
 
-pub invariant-of-self : goal.invariant-of-self
-invariant-of-self c =
+pub invariant_of-self : goal.invariant_of-self
+invariant_of-self c =
     let s = c.args.self.now in
     let fits : SFits w64 c.args.row.blob = search rules in
     let low = every_insert (λ row. not (is_lt (int_cmp row.blob least_signed))) blob_key by_signed (held s.rows) c.args.row (ap not (above_least_signed c.args.row.blob fits)) s.floor in

@@ -29,4 +29,4 @@ loop-row-preserved g c =
     )
 
 pub returns : goal.returns
-returns g c = sym (release_end g.H.Host.respond c.args.n (seen g.H.Host.model c.loop-row.self) (sym c.first_held_back.ensures ∙ c.in-default.is)) ∙ c.loop-row.invariant.1
+returns g c = sym (release_end g.H.Host.respond c.args.n (seen g.H.Host.model c.loop-row.self) (sym c.first_held_back.ensures ∙ c.in_default.is)) ∙ c.loop-row.invariant.1
