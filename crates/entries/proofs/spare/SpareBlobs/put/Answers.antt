@@ -22,4 +22,8 @@ invariant_of-self c =
     let s = c.args.self.now in
     let fits : SFits w64 c.args.row.blob = search rules in
     let low = every_insert (λ row. not (is_lt (int_cmp row.blob least_signed))) blob_key by_signed (held s.rows) c.args.row (ap not (above_least_signed c.args.row.blob fits)) s.floor in
-    (c.put.ensures.order, (subst (λ rows. floored blob_key int_cmp rows least_signed ≡ true) (sym c.put.ensures.rows) low, (c.put.ensures.limit ∙ s.limit, tt)))
+    record {
+      up = c.put.ensures.order;
+      floor = subst (λ rows. floored blob_key int_cmp rows least_signed ≡ true) (sym c.put.ensures.rows) low;
+      limit = c.put.ensures.limit ∙ s.limit;
+    }
