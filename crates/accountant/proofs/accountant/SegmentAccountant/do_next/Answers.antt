@@ -23,4 +23,4 @@ invariant_of-self g c =
     let lsn = to_z-of_z w64 c.args.lsn c.ranges.lsn in
     let in_range : out_of_range c.args.lsn ≡ false = ap out_of_range (sym lsn) ∙ sym c.if-out_of_range.ensures in
     let after = ap (λ o. o.1) c.next_at.ensures ∙ ap (λ l. (next_at l b).1) lsn in
-    (put_in a.started _ (subst Shared (sym after) (next_keeps share_steps c.args.lsn b in_range (taken_out a.started b c.if-not-self.false a.kept))), tt)
+    record { kept = put_in a.started _ (subst Shared (sym after) (next_keeps share_steps c.args.lsn b in_range (taken_out a.started b c.if-not-self.false a.kept))) }

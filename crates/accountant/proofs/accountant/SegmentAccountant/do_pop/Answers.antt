@@ -17,4 +17,4 @@ pub invariant_of-self : goal.invariant_of-self
 invariant_of-self g c =
     let a = c.args.self.now in
     let b : Books = books_of a.world.ledger in
-    (put_in a.started _ (subst Shared (sym (ap (λ o. o.1) c.pop_page.ensures)) (popped_keeps share_steps b (taken_out a.started b c.if-not-self.false a.kept))), tt)
+    record { kept = put_in a.started _ (subst Shared (sym (ap (λ o. o.1) c.pop_page.ensures)) (popped_keeps share_steps b (taken_out a.started b c.if-not-self.false a.kept))) }

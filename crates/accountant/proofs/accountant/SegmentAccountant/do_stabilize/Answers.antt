@@ -24,4 +24,4 @@ invariant_of-self g c =
     let lsn = to_z-of_z w64 c.args.lsn c.ranges.lsn in
     let passes : (not (lt_z c.args.lsn (pos 0)) && out_of_range c.args.lsn) ≡ false = ap (λ l. not (lt_z l (pos 0)) && out_of_range l) (sym lsn) ∙ sym c.if-is_outside.ensures in
     let after = ap (λ o. o.1.books) c.stabilize.ensures ∙ ap (λ l. (stabilized_at g.H.Host.respond l w).1.books) lsn in
-    (put_in a.started _ (subst Shared (sym after) (stabilized_keeps g.H.Host.respond share_steps c.args.lsn w passes (taken_out a.started w.books c.if-not-self.false a.kept))), tt)
+    record { kept = put_in a.started _ (subst Shared (sym after) (stabilized_keeps g.H.Host.respond share_steps c.args.lsn w passes (taken_out a.started w.books c.if-not-self.false a.kept))) }
