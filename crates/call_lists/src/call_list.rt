@@ -27,13 +27,13 @@ fn text_of(bytes: &[u8]) -> Result<&str, Reason> {
 }
 
 impl CallList {
-    pub fn new(heap: Global, input: Stdin) -> CallList {
-        CallList {
+    pub fn new(heap: Global, input: Stdin) -> Result<CallList, Stop> {
+        Ok(CallList {
             heap,
-            reader: BufReader::new(input),
+            reader: BufReader::new(heap, input)?,
             bytes: Vec::new(heap),
             line: 0,
-        }
+        })
     }
 
     // The number of the line that was read last.

@@ -4,7 +4,7 @@ use std::alloc::{AllocError, AllocFailed};
 use std::io;
 
 /// What ends the work before the list does: a line that is not played, want of memory, or input or output that fails.
-#[derive(Drop)]
+#[derive(Debug, Drop)]
 pub enum Stop {
     Unread(Reason),
     Memory,
