@@ -1,5 +1,5 @@
 -- What the books keep, in and out of the accountant.
-use Rattle.std.proofs.Common.{◌≡◌, Bool, true, false, sym, refl, true≢false}
+use Rattle.std.proofs.Common.{◌≡◌, Bool, true, false, Some, sym, refl, ap, ◌∙◌, true≢false}
 use mathlib.Core.Logic.{∥∥₁_elim}
 use Rattle.rules.specs.Books.{Books}
 use Rattle.orders.specs.Always.{IfAny}
@@ -15,3 +15,8 @@ taken_out false b e k = absurd (true≢false (sym e))
 pub put_in : (t : Bool) (b : Books) → Shared b → ∥ IfAny Shared (books_if t b) ∥₁
 put_in true b s = ∣ s ∣₁
 put_in false b s = ∣ tt ∣₁
+
+-- with a started accountant the books are there
+pub books_there : (t : Bool) (b : Books) → t ≡ true → books_if t b ≡ Some b
+books_there true b e = refl
+books_there false b e = absurd (true≢false (sym e))
