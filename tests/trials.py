@@ -1,6 +1,6 @@
 """The stored lists as one trial of the port.
 
-    trials.py make      writes crates/trials/stdin and stdout anew from the lists and transcripts in sample/
+    trials.py make      writes unfinished/trials/stdin and stdout anew from the lists and transcripts in sample/
     trials.py check     tells whether the two files are what the sample gives
 
 The lists of the sample stand one after another in stdin, and their transcripts by the rules in stdout, with the runs counted on.
@@ -19,7 +19,7 @@ sys.path.insert(0, str(ROOT / "reference"))
 from call_lists import MOST_LAYERS, most_layers  # noqa: E402
 
 SAMPLE = ROOT / "sample"
-TRIALS = ROOT / "crates" / "trials"
+TRIALS = ROOT / "unfinished" / "trials"
 
 
 def is_played(name: str, text: str) -> bool:
@@ -52,7 +52,7 @@ def main() -> int:
         case ["check"]:
             stale = [name for name, text in made.items() if (TRIALS / name).read_text() != text]
             for name in stale:
-                print(f"crates/trials/{name} is not what the sample gives: run tests/trials.py make")
+                print(f"unfinished/trials/{name} is not what the sample gives: run tests/trials.py make")
             return 1 if stale else 0
     print("usage: trials.py make | trials.py check", file=sys.stderr)
     return 2

@@ -1,5 +1,5 @@
 -- What the books keep, in and out of the accountant.
-use Rattle.std.proofs.Common.{◌≡◌, Bool, true, false, Some, sym, refl, ap, ◌∙◌, true≢false}
+use Rattle.std.proofs.Common.{◌≡◌, Bool, true, false, Some, sym, refl, true≢false}
 use mathlib.Core.Logic.{∥∥₁_elim}
 use Rattle.rules.specs.Books.{Books}
 use Rattle.orders.specs.Always.{IfAny}

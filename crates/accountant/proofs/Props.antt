@@ -1,5 +1,5 @@
 -- What the books keep is a proposition: a fact that a struct may carry.
-use Rattle.std.proofs.Common.{◌≡◌, ℕ, zero, suc, ◌<◌, ◌≤◌, Bool, true, ℤ, pos, negsuc, Some, None, Option, sym, refl, ap, ◌∙◌, arith}
+use Rattle.std.proofs.Common.{◌≡◌, ℕ, Bool, true, ℤ, pos, negsuc, Some, None, Option, sym, refl, ap, ◌∙◌, arith}
 use mathlib.Core.Bool.{Bool-set}
 use mathlib.Core.HLevel.{Unit-prop, Π_prop, →_prop, ×_prop, ⊥_prop, is_prop→PathP, collapsible→set}
 use native.Mathlib.Bridge.{le_prop}
@@ -12,7 +12,6 @@ use Rattle.orders.specs.Ordered.{Ordered}
 use Rattle.orders.specs.Within.{Within}
 use Rattle.orders.specs.Looks.{label, Looking}
 use Rattle.orders.specs.Counts.{Counted, Counting}
-use Rattle.orders.specs.Spread.{Spread, Whole}
 use Rattle.orders.specs.Share.{Shared}
 use Rattle.orders.specs.Always.{IfAny}
 

@@ -1,5 +1,5 @@
 -- A started accountant has books that keep all, before and after, and what link gives it gives over every host.
-use Rattle.std.proofs.Common.{◌≡◌, Some, sym, ap, ◌∙◌, subst}
+use Rattle.std.proofs.Common.{Some, sym, ap, ◌∙◌, subst}
 use Rattle.rules.specs.Books.{Books}
 use Rattle.rules.specs.Calls as call
 use Rattle.rules.specs.Runs.{Link}

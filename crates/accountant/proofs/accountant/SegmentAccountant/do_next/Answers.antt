@@ -1,5 +1,5 @@
 -- A started accountant has books that keep all, before and after.
-use Rattle.std.proofs.Common.{◌≡◌, false, sym, refl, ap, ◌∙◌, subst, w64}
+use Rattle.std.proofs.Common.{◌≡◌, false, sym, ap, ◌∙◌, subst, w64}
 use Rattle.std.proofs.lemmas.Int.{to_z-of_z}
 use Rattle.rules.specs.Books.{Books}
 use Rattle.rules.specs.HandingOut.{next_at}

@@ -1,5 +1,5 @@
 -- A started accountant has books that keep all, before and after.
-use Rattle.std.proofs.Common.{◌≡◌, sym, refl, ap, ◌∙◌, subst}
+use Rattle.std.proofs.Common.{sym, ap, subst}
 use Rattle.rules.specs.Books.{Books}
 use Rattle.orders.specs.Share.{Shared}
 use Rattle.orders.proofs.HandsOut.{popped_keeps}

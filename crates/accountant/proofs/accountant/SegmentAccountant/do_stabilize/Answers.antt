@@ -1,5 +1,5 @@
 -- A started accountant has books that keep all, before and after.
-use Rattle.std.proofs.Common.{◌≡◌, false, not, ◌&&◌, pos, sym, refl, ap, ◌∙◌, subst, w64}
+use Rattle.std.proofs.Common.{◌≡◌, false, not, ◌&&◌, pos, sym, ap, ◌∙◌, subst, w64}
 use lib.Signed.{lt_z}
 use Rattle.std.proofs.lemmas.Int.{to_z-of_z}
 use Rattle.rules.specs.Links.{out_of_range}
