@@ -1,5 +1,5 @@
 -- What is known where a segment is handed out: the books after it keep what books keep, so there is room.
-use Rattle.std.proofs.Common.{◌≡◌, ℕ, ◌+◌, ◌*◌, ◌/◌, ◌^◌, ◌<◌, ◌≤◌, Bool, true, false, cond, ◌&&◌, eqb, ltb, leb, List, [], ◌∷◌, length, ℤ, nat_abs, Some, None, Ok, Err, Result, sym, refl, ap, ◌∙◌, subst, mul-le-mul_right, arith}
+use Rattle.std.proofs.Common.{◌≡◌, ℕ, ◌*◌, ◌/◌, ◌<◌, ◌≤◌, Bool, true, false, cond, ◌&&◌, eqb, ltb, leb, List, [], ◌∷◌, length, ℤ, nat_abs, Some, Ok, Err, Result, sym, ap, ◌∙◌, subst, mul-le-mul_right, arith}
 use lib.Count.{ones}
 use Rattle.std.proofs.lemmas.Bool.{and_parts, leb-true}
 use Rattle.segment.specs.declared.rows.FaultRow.{FaultRow}
@@ -9,7 +9,6 @@ use Rattle.rules.specs.declared.refusal.Refusal.TheVariants as no
 use Rattle.rules.specs.Books.{Books, segment_of}
 use Rattle.rules.specs.HandingOut.{unaligned, in_use, at_tip, offered, handed_out, next_by, next_at, first_listed}
 use Rattle.rules.specs.Links.{out_of_range}
-use Rattle.rules.specs.Starting.{is_segment_size}
 use Rattle.orders.specs.Rooms.{Rooms}
 use Rattle.orders.specs.Share.{Shared}
 use Rattle.orders.specs.Within.{Within, is_place}

@@ -1,5 +1,5 @@
 -- The states of a ledger's segments, read one by one and written one by one.
-use Rattle.std.proofs.Common.{◌≡◌, ℕ, ◌<◌, ◌≤◌, cond, List, [], ◌∷◌, ◌++◌, map, length, get_or, set, vec_items, vec_len, Vec, sym, refl, ap, ◌∙◌, subst, arith, length-set}
+use Rattle.std.proofs.Common.{◌≡◌, ℕ, ◌<◌, ◌≤◌, cond, List, [], ◌∷◌, ◌++◌, length, get_or, set, vec_items, vec_len, Vec, sym, ap, ◌∙◌, subst, arith, length-set}
 use Rattle.std.specs.declared.alloc.Global.{Global}
 use Rattle.std.proofs.lemmas.List.{get_or-map, length-map, get_or_past, set-set}
 use Rattle.std.proofs.lemmas.Bool.{lt-ltb, le-ltb}

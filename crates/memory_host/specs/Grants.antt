@@ -1,10 +1,10 @@
 -- The memory host has the meaning, and so has the queue host over it: one is granted all, the other what finds a place.
-use Rattle.std.specs.Prelude.{◌≡◌, ◌≤◌, Bool, true, false, cond, List, is_some, Err, refl}
+use Rattle.std.specs.Prelude.{Bool, true, false, cond, is_some, Err, refl}
 use Rattle.std.proofs.Common.{sym, ap, arith}
 use Rattle.table.specs.Order.{signed_lawful}
 use Rattle.table.proofs.Laws.{find_remove_same, find_remove_other}
 use Rattle.memory_host.specs.Blobs.{pointer}
-use Rattle.host.specs.Meaning.{Answer, Sight, Obeys, Refused, Unchanged, refusal, sight, code_of, layer_of, request_of}
+use Rattle.host.specs.Meaning.{Sight, Obeys, Refused, refusal, sight}
 use Rattle.memory_host.specs.Memory.{MemoryModel, memory_holds, memory_respond}
 use Rattle.memory_host.specs.Queue.{QueueModel, has_place, noted, queue_respond}
 use Rattle.host.specs.declared.request.Request.{Request}

@@ -1,25 +1,23 @@
 -- Cleaning one segment leaves the states and the page rows of all others as they are.
-use Rattle.std.proofs.Common.{◌≡◌, ℕ, zero, suc, ◌-◌, Bool, true, false, cond, not, ◌&&◌, eqb, List, [], ◌∷◌, map, length, get_or, set, ℤ, Some, None, filter, Option, Ordering, Less, Equal, Greater, sym, refl, ap, ◌∙◌, subst, true≢false}
+use Rattle.std.proofs.Common.{◌≡◌, ℕ, Bool, true, false, cond, not, ◌&&◌, eqb, List, [], ◌∷◌, map, get_or, ℤ, Some, None, Option, Ordering, Less, Equal, Greater, sym, refl, ap, ◌∙◌, subst, true≢false}
 use Rattle.std.proofs.lemmas.List.{get_or-set_other}
 use Rattle.std.specs.Option.{option_map}
 use Rattle.std.specs.Ordering.{is_eq, is_lt, nat_cmp as rank}
 use Rattle.std.proofs.lemmas.Bool.{and_parts, and_from}
 use Rattle.table.specs.Order.{Lawful, unsigned_lawful, lexical_lawful}
-use Rattle.table.specs.Rows.{by, every, find, ascending, insert_row}
+use Rattle.table.specs.Rows.{by, every, find, ascending}
 use Rattle.table.proofs.Filters.{find_kept}
 use Rattle.table.proofs.Laws.{find_insert_other, find_key}
 use Rattle.host.specs.Meaning.{Answer}
 use Rattle.host.specs.declared.request.Request.{Request}
 use Rattle.segment.specs.Rows.{page_key, by_page}
-use Rattle.segment.specs.Updates.{taken, leaves}
+use Rattle.segment.specs.Updates.{leaves}
 use Rattle.segment.specs.declared.rows.PageRow.{PageRow}
-use Rattle.segment.specs.declared.state.Draining.{Draining}
 use Rattle.segment.specs.declared.state.State.{State}
 use Rattle.segment.specs.declared.state.State.TheVariants as is
 use Rattle.rules.specs.Books.{Books, World, world, unused, state_of}
 use Rattle.rules.specs.Pages.{page_row, is_in, rows_off, all_queued, queued_row, left_row, marked}
-use Rattle.rules.specs.Freeing.{put_free, freed}
-use Rattle.rules.specs.Cleaning.{half_empty, start_draining, drain_by, drain_if_empty, holder, settle, emptied_at, held_by, free_by, free_if_left, cleaned}
+use Rattle.rules.specs.Cleaning.{half_empty, start_draining, drain_by, drain_if_empty, holder, settle, emptied_at, free_by, free_if_left, cleaned}
 use Rattle.rules.specs.Replacing.{taken_at}
 use Rattle.orders.specs.Ordered.{Ordered}
 use Rattle.orders.proofs.Cleans.{freed_segments, freed_size, freed_pages}

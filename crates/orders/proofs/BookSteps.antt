@@ -1,5 +1,5 @@
 -- Order, bounds, look-ups and counts are kept together by every step.
-use Rattle.std.proofs.Common.{◌≡◌, ℕ, suc, ◌/◌, ◌≤◌, Bool, true, false, ◌⊎◌, List, [], ◌∷◌, length, ℤ, is_some, Some, None, Option, sym, refl, ap, ◌∙◌, subst, inl, inr, true≢false, arith}
+use Rattle.std.proofs.Common.{◌≡◌, ℕ, ◌/◌, ◌≤◌, true, ◌⊎◌, List, ◌∷◌, length, ℤ, is_some, Some, None, Option, sym, refl, ap, ◌∙◌, subst, inl, inr, true≢false, arith}
 use Rattle.std.specs.List.{ContainsAt as Has}
 use Rattle.std.proofs.lemmas.List.{get_or-set_same}
 use Rattle.std.proofs.lemmas.Bool.{and_parts, cases_eq}
@@ -11,20 +11,17 @@ use Rattle.segment.specs.Bases.{base_of}
 use Rattle.segment.specs.Changes.{closed, drained, emptied, opened}
 use Rattle.segment.specs.Updates.{linked, taken}
 use Rattle.segment.specs.declared.cache_info.CacheInfo.{CacheInfo}
-use Rattle.segment.specs.declared.state.Active.{Active}
 use Rattle.segment.specs.declared.state.Draining.{Draining}
-use Rattle.segment.specs.declared.state.State.{State}
 use Rattle.segment.specs.declared.state.State.TheVariants as is
-use Rattle.rules.specs.Books.{Books, with_segments, with_pages, with_freeable, unused, state_of}
-use Rattle.rules.specs.Freeing.{put_free}
+use Rattle.rules.specs.Books.{Books, with_freeable, unused, state_of}
 use Rattle.rules.specs.Cleaning.{emptied_at}
-use Rattle.rules.specs.Links.{info_segment, into_state, link_refusal, link_of, linked_state}
+use Rattle.rules.specs.Links.{info_segment, link_refusal, link_of, linked_state}
 use Rattle.rules.specs.Pages.{page_count, left_count}
 use Rattle.rules.specs.HandingOut.{handed_out}
-use Rattle.rules.specs.Stabilizing.{is_free, number_of_lsn, closed_at}
+use Rattle.rules.specs.Stabilizing.{is_free, number_of_lsn}
 use Rattle.orders.specs.Ordered.{Ordered}
 use Rattle.orders.specs.Within.{Within, KeptWithin, is_place}
-use Rattle.orders.specs.Looks.{label, ordered_at, holds_back, Looks}
+use Rattle.orders.specs.Looks.{label, Looks}
 use Rattle.orders.specs.Counts.{Counted, Counts, Counting, Bounded}
 use Rattle.orders.specs.Always.{IfAny}
 use Rattle.orders.proofs.Steps.{Steps, Beginning}
@@ -33,7 +30,7 @@ use Rattle.orders.proofs.Replaces.{or_else_none, accepted_active, reached}
 use Rattle.orders.proofs.Stabilizes.{signed_laws}
 use Rattle.orders.proofs.Bounds.{size_positive}
 use Rattle.orders.proofs.BoundStarts.{within_steps, within_beginning}
-use Rattle.orders.proofs.LookSteps.{state_looks, linked_label, taken_label, lowered_looks, emptied_looks, settled_looks, held_looks, number_at_is, released_looks, entered_state, least_looks, tip_looks}
+use Rattle.orders.proofs.LookSteps.{state_looks, linked_label, taken_label, lowered_looks, settled_looks, held_looks, number_at_is, released_looks, entered_state, least_looks, tip_looks}
 use Rattle.orders.proofs.Counting.{counts_set, freed_counts, drained_counts, linked_counts, taken_counts, popped_counts, counts_bound}
 use Rattle.orders.proofs.Fresh.{Fresh, begins_fresh, recovered_fresh, made_looks, fresh_counts, Progress, made_progress, freed_progress, passed_progress, lowered_progress}
 

@@ -1,8 +1,8 @@
 -- The books of a start are within their bounds, and so the steps keep them there in every run.
-use Rattle.std.proofs.Common.{◌≡◌, ℕ, zero, suc, ◌+◌, ◌*◌, ◌^◌, ◌<◌, ◌≤◌, Bool, true, false, cond, not, ◌&&◌, ◌||◌, eqb, ltb, leb, List, [], ◌∷◌, length, set, replicate, ℤ, pos, negsuc, is_some, Some, None, Ok, Err, Option, Result, unwrap_or, sym, refl, ap, ◌∙◌, subst, true≢false, arith}
-use Rattle.std.proofs.lemmas.List.{length-set, length-replicate, get_or-set_same}
-use Rattle.std.proofs.lemmas.Bool.{and_parts, and_from, leb-true, ltb-true, ltb-false, leb-false, lt-ltb, le-leb, not-true, not-false, not_from_false, or_parts}
-use Rattle.table.specs.Rows.{every, find, insert_row, remove_row, own_key}
+use Rattle.std.proofs.Common.{◌≡◌, ℕ, suc, ◌+◌, ◌*◌, ◌^◌, ◌<◌, ◌≤◌, Bool, true, false, not, ◌&&◌, eqb, ltb, leb, List, [], ◌∷◌, length, ℤ, pos, is_some, Some, None, Ok, Err, Option, Result, unwrap_or, sym, refl, subst, true≢false, arith}
+use Rattle.std.proofs.lemmas.List.{length-set, length-replicate}
+use Rattle.std.proofs.lemmas.Bool.{and_parts, and_from, leb-true, ltb-false, le-leb, not-false, not_from_false, or_parts}
+use Rattle.table.specs.Rows.{every, find, insert_row, own_key}
 use Rattle.segment.specs.Bases.{base_of}
 use Rattle.segment.specs.Changes.{opened, emptied}
 use Rattle.segment.specs.Rows.{ordering_key}
@@ -13,14 +13,12 @@ use Rattle.segment.specs.declared.state.Draining.{Draining}
 use Rattle.segment.specs.declared.state.State.{State}
 use Rattle.segment.specs.declared.state.State.TheVariants as is
 use Rattle.rules.specs.declared.refusal.Refusal.{Refusal}
-use Rattle.rules.specs.Books.{Books, with_ordering, with_listed, unused, state_of}
+use Rattle.rules.specs.Books.{Books, with_ordering, unused, state_of}
 use Rattle.rules.specs.Freeing.{put_free}
 use Rattle.rules.specs.Cleaning.{emptied_at}
 use Rattle.rules.specs.Links.{out_of_range, too_large, page_rows_full, linked_at}
-use Rattle.rules.specs.Stabilizing.{is_free}
-use Rattle.rules.specs.Starting.{Plan, stable_out_of_range, lsns_out_of_range, is_segment_size, is_header, segment_count, plan_refusal, blank, with_active, opened_at, has_base, bytes_in, row_size, row_segment, opened_for, placed_refusal, row_refusal, order_state, order_then, order_all}
-use Rattle.orders.specs.Ordered.{Ordered}
-use Rattle.orders.specs.Within.{Within, KeptWithin, is_lsn, is_bounded, is_place, is_end, is_level}
+use Rattle.rules.specs.Starting.{Plan, stable_out_of_range, lsns_out_of_range, is_segment_size, is_header, segment_count, plan_refusal, blank, with_active, opened_at, has_base, bytes_in, row_size, row_segment, opened_for, row_refusal, order_state, order_then, order_all}
+use Rattle.orders.specs.Within.{Within, KeptWithin, is_lsn, is_bounded, is_place}
 use Rattle.orders.proofs.Steps.{Steps, Beginning}
 use Rattle.orders.proofs.Every.{every_insert, every_remove, every_replicate, end_of, place_of}
 use Rattle.orders.proofs.Replaces.{passed, base_in_range, reached}

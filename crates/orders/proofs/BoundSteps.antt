@@ -1,23 +1,22 @@
 -- Every step keeps the bounds: what a call checks is what its steps need.
-use Rattle.std.proofs.Common.{◌≡◌, ℕ, zero, suc, ◌+◌, ◌-◌, ◌*◌, ◌/◌, ◌^◌, ◌<◌, ◌≤◌, Bool, true, false, cond, not, ◌&&◌, ◌||◌, eqb, ltb, leb, List, [], ◌∷◌, ◌++◌, length, get_or, set, replicate, ℤ, pos, negsuc, nat_abs, is_some, Some, None, Ok, Err, Option, Result, unwrap_or, sym, refl, ap, ◌∙◌, subst, true≢false, div-mul-le_self, mul-div_cancel, arith}
+use Rattle.std.proofs.Common.{◌≡◌, ℕ, suc, ◌+◌, ◌-◌, ◌*◌, ◌/◌, ◌^◌, ◌<◌, ◌≤◌, Bool, true, false, cond, not, ◌&&◌, ltb, leb, List, [], ◌∷◌, ◌++◌, length, set, ℤ, is_some, Some, None, Option, sym, refl, ap, ◌∙◌, subst, arith}
 use lib.Signed.{lt_z}
 use Rattle.std.specs.Int.{int_max}
 use Rattle.std.specs.List.{ContainsAt as Has}
 use Rattle.std.proofs.lemmas.Nat.{div_below}
 use Rattle.std.proofs.lemmas.List.{length-set, length-append}
-use Rattle.std.proofs.lemmas.Bool.{and_parts, and_from, eqb-true, ltb-true, leb-true, ltb-false, leb-false, eq-eqb, lt-ltb, le-leb, not-true, not-false, not_from_false, eqb-false}
-use Rattle.table.specs.Order.{unsigned_lawful, signed_lawful}
+use Rattle.std.proofs.lemmas.Bool.{and_parts, and_from, ltb-true, leb-true, ltb-false, leb-false, eq-eqb, lt-ltb, le-leb, not_from_false}
+use Rattle.table.specs.Order.{signed_lawful}
 use Rattle.table.specs.Rows.{every, find, insert_row, remove_row, own_key}
 use Rattle.table.proofs.Filters.{every_kept, has_from_kept}
 use Rattle.table.proofs.Laws.{find_has, find_key, has_find, length_insert_new, length_insert_old}
 use Rattle.table.proofs.Orders.{every_has}
-use Rattle.host.specs.Meaning.{Answer}
 use Rattle.segment.specs.Bases.{base_of}
 use Rattle.segment.specs.Pointers.{blob_of}
-use Rattle.segment.specs.Changes.{closed, drained, emptied, opened}
-use Rattle.segment.specs.Rows.{ordering_key, page_key, blob_key, freeable_key, fault_key, by_page, by_signed}
+use Rattle.segment.specs.Changes.{drained, emptied, opened}
+use Rattle.segment.specs.Rows.{ordering_key, page_key, blob_key, freeable_key, by_page, by_signed}
 use Rattle.segment.specs.Signs.{same_z}
-use Rattle.segment.specs.Updates.{linked, deferred, counted, taken, leaves}
+use Rattle.segment.specs.Updates.{taken, leaves}
 use Rattle.segment.specs.declared.cache_info.CacheInfo.{CacheInfo}
 use Rattle.segment.specs.declared.rows.BlobRow.{BlobRow}
 use Rattle.segment.specs.declared.rows.FreeableRow.{FreeableRow}
@@ -28,21 +27,20 @@ use Rattle.segment.specs.declared.state.Draining.{Draining}
 use Rattle.segment.specs.declared.state.Inactive.{Inactive}
 use Rattle.segment.specs.declared.state.State.{State}
 use Rattle.segment.specs.declared.state.State.TheVariants as is
-use Rattle.rules.specs.declared.refusal.Refusal.{Refusal}
-use Rattle.rules.specs.Books.{Books, with_segments, with_tip, with_free, with_ordering, with_pages, with_blobs, with_freeable, with_listed, with_faults, with_stabilized, unused, state_of, segment_of, offset_of}
-use Rattle.rules.specs.Pages.{page_row, is_left, is_lying, is_in, rows_of, queue_of, rows_off, all_queued, queued_row, left_row, new_row, written, marked, page_count, left_count}
+use Rattle.rules.specs.Books.{Books, with_segments, with_free, with_ordering, with_pages, with_blobs, with_freeable, with_listed, state_of, segment_of, offset_of}
+use Rattle.rules.specs.Pages.{page_row, is_left, is_lying, is_in, rows_of, queue_of, all_queued, queued_row, left_row, new_row, written, marked}
 use Rattle.rules.specs.Freeing.{put_free}
 use Rattle.rules.specs.Cleaning.{start_draining, is_active, active_at, holder, emptied_at, held_by}
-use Rattle.rules.specs.Links.{out_of_range, too_large, page_rows_full, into_active, into_state, info_segment, link_refusal, link_of, linked_state, linked_at}
-use Rattle.rules.specs.Replacing.{same_blob, blob_row, with_blob, given_up, blob_rows_full, blobs_given_up, from_closed, from_state, taken_at}
+use Rattle.rules.specs.Links.{out_of_range, page_rows_full, into_active, into_state, info_segment, link_refusal, link_of, linked_state, linked_at}
+use Rattle.rules.specs.Replacing.{same_blob, blob_row, with_blob, given_up, blob_rows_full, blobs_given_up, from_state, taken_at}
 use Rattle.rules.specs.Stabilizing.{blobs_off, number_at, number_of_lsn, closed_at}
-use Rattle.rules.specs.HandingOut.{entered, rest_of, risen, handed_out, first_listed}
+use Rattle.rules.specs.HandingOut.{entered, rest_of, risen, handed_out}
 use Rattle.orders.specs.Ordered.{Ordered}
-use Rattle.orders.specs.Within.{Within, is_lsn, is_former, is_bounded, is_place, is_end, is_level}
+use Rattle.orders.specs.Within.{Within, is_lsn, is_bounded, is_place, is_end}
 use Rattle.orders.proofs.Alone.{page_laws}
-use Rattle.orders.proofs.Every.{every_insert, every_remove, every_set, every_push, every_mapped, kept_most, length_mapped, place_of, end_of, place_parts, end_parts, place_more, suc_times}
+use Rattle.orders.proofs.Every.{every_insert, every_remove, every_push, every_mapped, kept_most, length_mapped, place_of, end_of, place_parts, end_parts, suc_times}
 use Rattle.orders.proofs.Replaces.{or_else_none, passed, accepted_active, active_reached, reached}
-use Rattle.orders.proofs.Bounds.{size_positive, grown_within, state_within, pages_within, blobs_within, free_within, listed_within, ordering_within, freeable_within, faults_within, tip_within, level_within, state_bounded, freed_within, lowered_within}
+use Rattle.orders.proofs.Bounds.{size_positive, grown_within, state_within, pages_within, blobs_within, free_within, listed_within, ordering_within, freeable_within, tip_within, state_bounded, freed_within}
 use Rattle.std.specs.Ordering.{nat_cmp, int_cmp}
 
 -- ---- cleaning

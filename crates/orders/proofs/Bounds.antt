@@ -1,33 +1,23 @@
 -- Every step keeps the books' numbers within their bounds.
-use Rattle.std.proofs.Common.{◌≡◌, ℕ, zero, suc, ◌+◌, ◌-◌, ◌*◌, ◌/◌, ◌^◌, ◌<◌, ◌≤◌, Bool, true, false, cond, not, ◌&&◌, ◌||◌, eqb, ltb, leb, List, [], ◌∷◌, ◌++◌, length, get_or, set, replicate, ℤ, pos, negsuc, nat_abs, is_some, Some, None, Ok, Err, Option, Result, unwrap_or, sym, refl, ap, ◌∙◌, subst, true≢false, div-mul-le_self, mul-div_cancel, arith}
-use Rattle.std.specs.List.{ContainsAt as Has}
+use Rattle.std.proofs.Common.{◌≡◌, ℕ, ◌-◌, ◌/◌, ◌<◌, ◌≤◌, Bool, true, not, ◌&&◌, eqb, ltb, leb, List, length, set, ℤ, Some, None, Ok, Err, Option, sym, refl, subst, arith}
 use Rattle.std.proofs.lemmas.List.{length-set}
-use Rattle.std.proofs.lemmas.Bool.{and_parts, and_from, eqb-true, ltb-true, leb-true, ltb-false, leb-false, eq-eqb, lt-ltb, le-leb, not-true, not-false, not_from_false, eqb-false}
-use Rattle.table.specs.Order.{unsigned_lawful, signed_lawful}
-use Rattle.table.specs.Rows.{every, find, insert_row, remove_row, own_key}
-use Rattle.table.proofs.Filters.{every_kept, has_from_kept}
-use Rattle.table.proofs.Laws.{find_has, find_key, has_find, length_insert_new, length_insert_old}
-use Rattle.table.proofs.Orders.{every_has}
+use Rattle.std.proofs.lemmas.Bool.{and_parts, and_from, ltb-true, leb-true, eq-eqb, lt-ltb, le-leb, not-true, eqb-false}
+use Rattle.table.specs.Rows.{every, remove_row, own_key}
+use Rattle.table.proofs.Filters.{every_kept}
 use Rattle.host.specs.Meaning.{Answer}
-use Rattle.segment.specs.Rows.{ordering_key, page_key, blob_key, freeable_key, fault_key, by_page, by_signed}
+use Rattle.segment.specs.Rows.{ordering_key, fault_key}
 use Rattle.segment.specs.declared.rows.BlobRow.{BlobRow}
 use Rattle.segment.specs.declared.rows.FaultRow.{FaultRow}
 use Rattle.segment.specs.declared.rows.FreeableRow.{FreeableRow}
 use Rattle.segment.specs.declared.rows.OrderingRow.{OrderingRow}
 use Rattle.segment.specs.declared.rows.PageRow.{PageRow}
-use Rattle.segment.specs.declared.state.Draining.{Draining}
-use Rattle.segment.specs.declared.state.Inactive.{Inactive}
 use Rattle.segment.specs.declared.state.State.{State}
 use Rattle.segment.specs.declared.state.State.TheVariants as is
-use Rattle.rules.specs.Books.{Books, with_segments, with_tip, with_free, with_ordering, with_pages, with_blobs, with_freeable, with_listed, with_faults, with_stabilized, unused, state_of, segment_of, offset_of}
-use Rattle.rules.specs.Pages.{page_row, is_in, rows_off, all_queued, queued_row, left_row, new_row, written, marked}
+use Rattle.rules.specs.Books.{Books, with_segments, with_tip, with_free, with_ordering, with_pages, with_blobs, with_freeable, with_listed, with_faults, with_stabilized, unused, state_of, offset_of}
+use Rattle.rules.specs.Pages.{is_in, rows_off}
 use Rattle.rules.specs.Freeing.{without_lsn, unordered, put_free, can_cut, remembered, lowered}
-use Rattle.rules.specs.Cleaning.{start_draining, holder, active_at, emptied_at, held_by}
-use Rattle.rules.specs.Stabilizing.{blobs_off, number_at, number_of_lsn}
-use Rattle.orders.specs.Ordered.{Ordered}
-use Rattle.orders.specs.Within.{Within, is_lsn, is_former, is_bounded, is_place, is_end, is_level}
-use Rattle.orders.proofs.Alone.{page_laws}
-use Rattle.orders.proofs.Every.{every_insert, every_remove, every_set, every_index, every_push, every_replicate, every_weaker, every_mapped, kept_most, length_mapped, place_of, end_of, place_parts, end_parts, place_more, last_place}
+use Rattle.orders.specs.Within.{Within, is_lsn, is_bounded, is_place, is_end, is_level}
+use Rattle.orders.proofs.Every.{every_insert, every_remove, every_set, every_index, every_weaker, kept_most, place_of, end_of, end_parts, place_more, last_place}
 use Rattle.std.specs.Ordering.{nat_cmp, int_cmp}
 
 -- ---- one part changed

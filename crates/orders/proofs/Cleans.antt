@@ -1,9 +1,8 @@
 -- Freeing with its cuts, and cleaning, are made of steps.
-use Rattle.std.proofs.Common.{◌≡◌, ℕ, zero, suc, ◌-◌, Bool, true, false, cond, eqb, List, [], ◌∷◌, length, get_or, set, Some, None, Option, sym, refl, ap, ◌∙◌, subst}
+use Rattle.std.proofs.Common.{◌≡◌, ℕ, zero, suc, ◌-◌, Bool, true, false, cond, eqb, length, Some, None, Option, refl}
 use Rattle.std.proofs.lemmas.Bool.{eqb-true}
 use Rattle.host.specs.Meaning.{Answer, asked_cut}
 use Rattle.host.specs.declared.request.Request.{Request}
-use Rattle.segment.specs.declared.state.Draining.{Draining}
 use Rattle.segment.specs.declared.state.State.{State}
 use Rattle.segment.specs.declared.state.State.TheVariants as is
 use Rattle.rules.specs.Books.{Books, World, world, state_of}

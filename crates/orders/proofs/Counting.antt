@@ -1,5 +1,5 @@
 -- Every step of an accountant at work keeps the counts of closed segments true.
-use Rattle.std.proofs.Common.{◌≡◌, ℕ, zero, suc, ◌+◌, ◌^◌, ◌<◌, ◌≤◌, Bool, true, false, cond, not, ◌&&◌, ltb, leb, ◌⊎◌, List, [], ◌∷◌, length, get_or, set, ℤ, Some, None, filter, Option, sym, refl, ap, ◌∙◌, subst, inl, inr, true≢false, arith}
+use Rattle.std.proofs.Common.{◌≡◌, ℕ, zero, suc, ◌+◌, ◌<◌, ◌≤◌, Bool, true, false, cond, not, ◌&&◌, ◌⊎◌, List, [], ◌∷◌, length, get_or, set, ℤ, Some, None, filter, Option, sym, refl, ap, ◌∙◌, subst, inl, inr, true≢false, arith}
 use lib.Signed.{lt_z}
 use Rattle.std.specs.Ordering.{is_eq}
 use Rattle.std.specs.List.{ContainsAt as Has}
@@ -30,7 +30,7 @@ use Rattle.orders.specs.Counts.{Counted, Counts}
 use Rattle.orders.proofs.Alone.{page_laws, rank_other}
 use Rattle.orders.proofs.Every.{every_index, kept_most}
 use Rattle.orders.proofs.Replaces.{passed}
-use Rattle.orders.proofs.Tallies.{over, beside, through_map, left_as_one, in_is, off_count}
+use Rattle.orders.proofs.Tallies.{over, beside, through_map, left_as_one, off_count}
 
 pub past_end : (l : List State) (n : ℕ) → length l ≤ n → get_or l n unused ≡ unused
 past_end [] n h = refl

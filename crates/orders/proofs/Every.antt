@@ -1,5 +1,5 @@
 -- What holds of every row or state after an edit.
-use Rattle.std.proofs.Common.{◌≡◌, ℕ, zero, suc, ◌+◌, ◌-◌, ◌*◌, ◌/◌, ◌<◌, ◌≤◌, Bool, true, false, cond, not, ◌&&◌, eqb, ltb, leb, List, [], ◌∷◌, ◌++◌, map, length, get_or, set, replicate, filter, Ordering, Less, Equal, Greater, sym, refl, ap, ◌∙◌, subst, mul-le-mul_right, mul-div_cancel, arith}
+use Rattle.std.proofs.Common.{◌≡◌, ℕ, zero, suc, ◌+◌, ◌-◌, ◌*◌, ◌/◌, ◌<◌, ◌≤◌, Bool, true, false, cond, eqb, ltb, leb, List, [], ◌∷◌, ◌++◌, map, length, get_or, set, replicate, filter, Ordering, Less, Equal, Greater, sym, refl, ap, ◌∙◌, subst, mul-div_cancel, arith}
 use Rattle.std.proofs.lemmas.Bool.{and_parts, and_from, eqb-true, ltb-true, leb-true, eq-eqb, lt-ltb, le-leb}
 use Rattle.table.specs.Rows.{by, every, put_by, cut_by, towards, insert_row, remove_row}
 use Rattle.orders.specs.Within.{is_place, is_end}

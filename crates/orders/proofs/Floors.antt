@@ -1,5 +1,5 @@
 -- The signed parts of freeable and blob rows are not below the least `i64`: so a segment's rows are one range of the table.
-use Rattle.std.proofs.Common.{◌≡◌, ℕ, Bool, true, false, cond, not, ◌&&◌, ltb, List, [], ◌∷◌, length, ℤ, pos, negsuc, Some, None, Option, sym, refl, ap, ◌∙◌, true≢false}
+use Rattle.std.proofs.Common.{◌≡◌, ℕ, Bool, true, false, cond, not, ◌&&◌, ltb, List, [], ◌∷◌, length, ℤ, pos, negsuc, Some, None, Option, sym, refl, true≢false}
 use Rattle.std.specs.Ordering.{is_lt, int_cmp}
 use Rattle.std.proofs.lemmas.Bool.{and_parts}
 use Rattle.table.specs.Ranges.{floored, least_signed}
@@ -9,7 +9,6 @@ use Rattle.segment.specs.Pointers.{blob_of}
 use Rattle.segment.specs.Rows.{blob_key, freeable_key, by_signed}
 use Rattle.segment.specs.declared.cache_info.CacheInfo.{CacheInfo}
 use Rattle.segment.specs.declared.rows.BlobRow.{BlobRow}
-use Rattle.segment.specs.declared.rows.FreeableRow.{FreeableRow}
 use Rattle.rules.specs.Books.{Books}
 use Rattle.rules.specs.Replacing.{same_blob, blob_row, with_blob, given_up}
 use Rattle.rules.specs.Stabilizing.{blobs_off}

@@ -1,8 +1,8 @@
 -- A start: states are Free and never used, or Active; the ordering leads to the Active ones; the Free ones are freed in turn, below a tip that stays until the last.
-use Rattle.std.proofs.Common.{◌≡◌, ℕ, zero, suc, ◌+◌, ◌-◌, ◌*◌, ◌/◌, ◌<◌, ◌≤◌, Bool, true, false, cond, not, ◌&&◌, eqb, ltb, leb, ◌⊎◌, List, [], ◌∷◌, length, get_or, set, replicate, ℤ, pos, is_some, Some, None, Ok, Err, Option, Result, unwrap_or, sym, refl, ap, ◌∙◌, subst, inl, inr, true≢false, mul-div_cancel, arith}
+use Rattle.std.proofs.Common.{◌≡◌, ℕ, suc, ◌+◌, ◌-◌, ◌*◌, ◌/◌, ◌<◌, ◌≤◌, Bool, true, false, not, eqb, ltb, ◌⊎◌, List, [], ◌∷◌, length, get_or, set, replicate, ℤ, pos, is_some, Some, None, Ok, Err, Option, Result, unwrap_or, sym, refl, ap, ◌∙◌, subst, inl, inr, true≢false, mul-div_cancel, arith}
 use Rattle.std.specs.Option.{option_map}
 use Rattle.std.proofs.lemmas.List.{length-set, length-replicate}
-use Rattle.std.proofs.lemmas.Bool.{and_parts, and_from, cases_eq, not-true, eqb-false}
+use Rattle.std.proofs.lemmas.Bool.{and_parts, cases_eq, not-true, eqb-false}
 use Rattle.table.specs.Order.{signed_lawful, unsigned_lawful}
 use Rattle.table.specs.Rows.{every, find, insert_row, remove_row, own_key}
 use Rattle.table.proofs.Laws.{find_insert_same, find_insert_other, find_remove_same, find_remove_other, find_has}
@@ -11,7 +11,6 @@ use Rattle.host.specs.Meaning.{Answer}
 use Rattle.segment.specs.Bases.{base_of}
 use Rattle.segment.specs.Changes.{opened}
 use Rattle.segment.specs.Rows.{ordering_key, freeable_key, by_signed}
-use Rattle.segment.specs.declared.rows.FreeableRow.{FreeableRow}
 use Rattle.segment.specs.declared.rows.OrderingRow.{OrderingRow}
 use Rattle.segment.specs.declared.snapshot.SnapshotRow.{SnapshotRow}
 use Rattle.segment.specs.declared.state.Active.{Active}
@@ -24,14 +23,14 @@ use Rattle.rules.specs.Links.{linked_state, linked_at}
 use Rattle.rules.specs.Stabilizing.{is_free}
 use Rattle.rules.specs.Starting.{Plan, segment_count, blank, with_active, opened_at, row_segment, row_size, opened_for, order_state, order_then, order_all}
 use Rattle.orders.specs.Ordered.{Ordered}
-use Rattle.orders.specs.Within.{Within, KeptWithin, is_lsn, is_place}
-use Rattle.orders.specs.Looks.{label, ordered_at, holds_back, offers, Looking, Looks}
+use Rattle.orders.specs.Within.{Within, is_lsn}
+use Rattle.orders.specs.Looks.{label, offers, Looks}
 use Rattle.orders.specs.Counts.{Counted, Counts}
 use Rattle.orders.proofs.Every.{every_set, every_index, every_replicate, place_parts, end_parts, last_place}
 use Rattle.orders.proofs.Bounds.{size_positive}
 use Rattle.orders.proofs.Looking.{cases_lsn}
-use Rattle.orders.proofs.LookSteps.{freed_looks, lowered_looks}
-use Rattle.orders.proofs.Counting.{past_end, freed_counts}
+use Rattle.orders.proofs.LookSteps.{freed_looks}
+use Rattle.orders.proofs.Counting.{past_end}
 use Rattle.orders.proofs.Replaces.{reached}
 use Rattle.std.specs.Ordering.{nat_cmp, int_cmp}
 

@@ -1,5 +1,5 @@
 -- Next and pop are made of steps.
-use Rattle.std.proofs.Common.{◌≡◌, ℕ, ◌*◌, Bool, true, false, cond, ltb, leb, List, [], ◌∷◌, ℤ, nat_abs, Some, None, Ok, Err, Option, Result, sym, refl, ap, ◌∙◌, subst}
+use Rattle.std.proofs.Common.{◌≡◌, ℕ, ◌*◌, Bool, true, false, cond, ltb, leb, List, [], ◌∷◌, ℤ, nat_abs, Some, None, Ok, Err, Option, Result, sym, refl, subst}
 use Rattle.segment.specs.declared.rows.FaultRow.{FaultRow}
 use Rattle.segment.specs.declared.rows.PageRow.{PageRow}
 use Rattle.rules.specs.declared.refusal.Refusal.{Refusal}

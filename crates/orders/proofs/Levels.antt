@@ -1,7 +1,7 @@
 -- The level that a stabilize stores is above the old one, and so an LSN.
-use Rattle.std.proofs.Common.{◌≡◌, ℕ, zero, suc, ◌+◌, ◌-◌, ◌*◌, ◌/◌, ◌^◌, ◌<◌, ◌≤◌, Bool, true, false, cond, not, ◌&&◌, ◌||◌, ltb, leb, ℤ, pos, negsuc, ◌-ℤ◌, sym, refl, ap, ◌∙◌, subst, true≢false, div-mul-le_self, arith}
+use Rattle.std.proofs.Common.{◌≡◌, ℕ, zero, suc, ◌+◌, ◌-◌, ◌*◌, ◌/◌, ◌^◌, ◌<◌, Bool, true, false, cond, not, ◌&&◌, ◌||◌, ltb, leb, ℤ, pos, negsuc, ◌-ℤ◌, refl, subst, true≢false, div-mul-le_self, arith}
 use lib.Signed.{lt_z, le_z}
-use Rattle.std.proofs.lemmas.Bool.{and_parts, and_from, or_parts, leb-true, leb-false, lt-ltb}
+use Rattle.std.proofs.lemmas.Bool.{and_parts, or_parts, leb-true, leb-false, lt-ltb}
 use Rattle.rules.specs.Links.{out_of_range}
 use Rattle.rules.specs.Stabilizing.{level}
 use Rattle.orders.specs.Within.{is_level}

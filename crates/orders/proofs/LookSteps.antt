@@ -1,33 +1,31 @@
 -- Every step of an accountant at work keeps what the look-ups say of each other.
-use Rattle.std.proofs.Common.{◌≡◌, ℕ, zero, suc, ◌+◌, ◌-◌, ◌*◌, ◌/◌, ◌<◌, ◌≤◌, Bool, true, false, cond, not, ◌&&◌, eqb, ltb, leb, ◌⊎◌, List, [], ◌∷◌, ◌++◌, length, get_or, set, ℤ, is_some, Some, None, Option, Less, Equal, sym, refl, ap, ◌∙◌, subst, inl, inr, true≢false, mul-div_cancel, arith}
+use Rattle.std.proofs.Common.{◌≡◌, ℕ, zero, suc, ◌+◌, ◌-◌, ◌*◌, ◌/◌, ◌<◌, ◌≤◌, Bool, true, false, cond, not, eqb, ltb, ◌⊎◌, List, [], ◌∷◌, ◌++◌, length, get_or, set, ℤ, is_some, Some, None, Option, Less, Equal, sym, refl, ap, ◌∙◌, subst, inl, inr, true≢false, mul-div_cancel, arith}
 use Rattle.std.specs.Option.{option_map}
 use Rattle.std.specs.Ordering.{is_lt, nat_cmp, int_cmp}
 use Rattle.std.specs.List.{ContainsAt as Has}
 use Rattle.std.proofs.lemmas.List.{get_or-set_same, get_or-set_other}
 use Rattle.std.proofs.lemmas.Bool.{and_parts, eqb-false, not-true, cases_eq, ltb-true, ltb-false}
 use Rattle.table.specs.Order.{unsigned_lawful, signed_lawful}
-use Rattle.table.specs.Rows.{every, ascending, find, insert_row, remove_row, own_key}
+use Rattle.table.specs.Rows.{every, ascending, find, remove_row, own_key}
 use Rattle.table.proofs.Laws.{ascending_remove, find_insert_same, find_insert_other, find_remove_same, find_remove_other, find_key, find_has, has_find, find_first, find_tail}
 use Rattle.table.proofs.Orders.{rank_same}
 use Rattle.host.specs.Meaning.{Answer}
-use Rattle.segment.specs.Changes.{drained, emptied, opened, closed}
+use Rattle.segment.specs.Changes.{emptied, opened}
 use Rattle.segment.specs.Rows.{ordering_key, freeable_key, by_signed}
 use Rattle.segment.specs.Updates.{taken}
 use Rattle.segment.specs.declared.rows.FreeableRow.{FreeableRow}
 use Rattle.segment.specs.declared.rows.OrderingRow.{OrderingRow}
-use Rattle.segment.specs.declared.state.Active.{Active}
 use Rattle.segment.specs.declared.state.Draining.{Draining}
-use Rattle.segment.specs.declared.state.Inactive.{Inactive}
 use Rattle.segment.specs.declared.state.State.{State}
 use Rattle.segment.specs.declared.state.State.TheVariants as is
-use Rattle.rules.specs.Books.{Books, with_segments, with_freeable, with_ordering, unused, state_of, segment_of, offset_of}
+use Rattle.rules.specs.Books.{Books, with_segments, with_freeable, unused, state_of, segment_of, offset_of}
 use Rattle.rules.specs.Freeing.{without_lsn, unordered, put_free, is_free_offset, can_cut, lowered}
 use Rattle.rules.specs.Cleaning.{emptied_at, held_by}
 use Rattle.rules.specs.Links.{linked_state}
 use Rattle.rules.specs.Stabilizing.{is_free, number_at, number_of_lsn}
 use Rattle.rules.specs.HandingOut.{in_use, entered, rest_of, risen, handed_out}
 use Rattle.orders.specs.Ordered.{Ordered}
-use Rattle.orders.specs.Within.{Within, is_lsn, is_place}
+use Rattle.orders.specs.Within.{Within, is_place}
 use Rattle.orders.specs.Looks.{label, ordered_at, holds_back, offers, Looking, Looks}
 use Rattle.orders.proofs.Every.{place_parts, end_parts, suc_times, last_place}
 use Rattle.orders.proofs.Bounds.{size_positive}

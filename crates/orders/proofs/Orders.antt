@@ -1,6 +1,6 @@
 -- Every step keeps every table in order.
-use Rattle.std.proofs.Common.{◌≡◌, ℕ, suc, ◌*◌, Bool, true, false, cond, List, [], ◌∷◌, ℤ, is_some, Some, None, Ok, Err, Option, Result, sym, refl, ap, ◌∙◌, subst, arith}
-use Rattle.table.specs.Order.{Lawful, unsigned_lawful, signed_lawful}
+use Rattle.std.proofs.Common.{◌≡◌, ℕ, suc, ◌*◌, Bool, true, false, cond, List, [], ◌∷◌, ℤ, is_some, Some, None, Ok, Err, Option, Result, refl, subst, arith}
+use Rattle.table.specs.Order.{unsigned_lawful, signed_lawful}
 use Rattle.table.specs.Rows.{ascending, find, insert_row, remove_row, own_key}
 use Rattle.table.proofs.Filters.{ascending_kept}
 use Rattle.table.proofs.Laws.{ascending_insert, ascending_remove}

@@ -1,5 +1,5 @@
 -- A refusal without a fault comes before anything is done: each call by its checks.
-use Rattle.std.proofs.Common.{◌≡◌, ℕ, ◌*◌, Bool, true, false, cond, not, ◌&&◌, ltb, leb, List, [], ◌∷◌, ℤ, pos, nat_abs, Some, None, Ok, Err, Option, Result, sym, refl, ap, ◌∙◌, arith}
+use Rattle.std.proofs.Common.{◌≡◌, ℕ, ◌*◌, Bool, true, false, cond, not, ◌&&◌, ltb, leb, List, [], ◌∷◌, ℤ, pos, nat_abs, Some, None, Ok, Err, Option, Result, refl, ap, arith}
 use lib.Signed.{lt_z}
 use Rattle.host.specs.Meaning.{Answer}
 use Rattle.host.specs.declared.request.HostFault.{HostFault}
@@ -11,12 +11,11 @@ use Rattle.rules.specs.declared.refusal.Refusal.TheVariants as no
 use Rattle.rules.specs.Books.{Books, World, world}
 use Rattle.rules.specs.Calls as call
 use Rattle.rules.specs.HandingOut.{offered, at_tip, next_by, next_at, unaligned, in_use, handed_out}
-use Rattle.rules.specs.Links.{or_else, out_of_range, link_refusal}
+use Rattle.rules.specs.Links.{out_of_range}
 use Rattle.rules.specs.Refusals.{fault_in}
-use Rattle.rules.specs.Replacing.{replace_refusal}
-use Rattle.rules.specs.Runs.{Call, Start, Link, Replace, Next, Stabilize, Pop, Reply, Done, Gave, Popped, Refused, reply, replied, step}
+use Rattle.rules.specs.Runs.{Start, Link, Replace, Next, Stabilize, Pop, Reply, Done, Gave, Popped, Refused, reply}
 use Rattle.rules.specs.Stabilizing.{stabilized_at}
-use Rattle.rules.specs.Starting.{Plan, started, start_by, freed_after, started_by, kept_if, plan_refusal, recovered, free_all}
+use Rattle.rules.specs.Starting.{Plan, start_by, freed_after, started_by, kept_if, plan_refusal, recovered, free_all}
 use Rattle.orders.specs.Refusals.{RefusalsLeaveAll}
 
 -- a refusal of this outcome that carries no fault leaves books and host

@@ -1,6 +1,5 @@
 -- The checks of a replacement are made before its visits. They hold at each visit, since the segments visited differ.
-use Rattle.std.proofs.Common.{◌≡◌, ℕ, zero, suc, ◌+◌, ◌*◌, ◌/◌, ◌^◌, ◌<◌, ◌≤◌, Bool, true, false, cond, not, ◌&&◌, ◌||◌, ltb, leb, List, [], ◌∷◌, length, get_or, set, ℤ, pos, negsuc, nat_abs, Some, None, Option, sym, refl, ap, ◌∙◌, subst, true≢false, div-mul-le_self, arith}
-use lib.Signed.{lt_z, le_z}
+use Rattle.std.proofs.Common.{◌≡◌, ℕ, zero, suc, ◌+◌, ◌*◌, ◌/◌, ◌^◌, ◌<◌, ◌≤◌, Bool, true, false, cond, not, ltb, leb, List, [], ◌∷◌, length, get_or, ℤ, pos, negsuc, Some, None, Option, sym, refl, ap, ◌∙◌, true≢false, div-mul-le_self, arith}
 use Rattle.std.proofs.lemmas.List.{get_or-set_same}
 use Rattle.std.proofs.lemmas.Bool.{ltb-true, ltb-false, leb-false, le-ltb, lt-leb, or_parts, or_from}
 use Rattle.host.specs.Meaning.{Answer}
@@ -11,16 +10,15 @@ use Rattle.segment.specs.Signs.{same_z}
 use Rattle.segment.specs.Updates.{linked}
 use Rattle.segment.specs.declared.cache_info.CacheInfo.{CacheInfo}
 use Rattle.segment.specs.declared.rows.BlobRow.{BlobRow}
-use Rattle.segment.specs.declared.rows.PageRow.{PageRow}
 use Rattle.segment.specs.declared.state.Active.{Active}
 use Rattle.segment.specs.declared.state.State.{State}
 use Rattle.segment.specs.declared.state.State.TheVariants as is
 use Rattle.rules.specs.declared.refusal.Refusal.{Refusal}
 use Rattle.rules.specs.Books.{Books, World, world, with_blobs, unused, state_of}
 use Rattle.rules.specs.Pages.{page_row}
-use Rattle.rules.specs.Cleaning.{drain_if_empty, cleaned}
-use Rattle.rules.specs.Links.{first_refusal, or_else, out_of_range, info_segment, into_state, link_refusal, link_of, linked_state}
-use Rattle.rules.specs.Replacing.{given_up, add_size, sums_onto, sums_of, from_closed, from_state, olds_refusal, blob_rows_full, replace_refusal, taken_at, blobs_given_up, visited, replaced}
+use Rattle.rules.specs.Cleaning.{cleaned}
+use Rattle.rules.specs.Links.{or_else, out_of_range, info_segment, into_state, link_refusal, link_of, linked_state}
+use Rattle.rules.specs.Replacing.{given_up, add_size, sums_onto, sums_of, from_state, olds_refusal, blob_rows_full, replace_refusal, taken_at, blobs_given_up, visited, replaced}
 use Rattle.orders.proofs.Steps.{Steps}
 use Rattle.orders.proofs.Cleans.{drain_keeps, cleaned_keeps}
 use Rattle.orders.proofs.Alone.{Alone, alone_then, taken_alone, cleaned_alone}

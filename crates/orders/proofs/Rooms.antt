@@ -1,5 +1,5 @@
 -- Rows with ascending places of so many segments are no more than those segments.
-use Rattle.std.proofs.Common.{◌≡◌, ℕ, zero, suc, ◌+◌, ◌*◌, ◌/◌, ◌<◌, ◌≤◌, Bool, true, false, ◌&&◌, leb, ◌⊎◌, List, [], ◌∷◌, length, is_some, Some, None, Option, Ordering, Less, Equal, sym, refl, ap, ◌∙◌, subst, inl, inr, true≢false, mul-le-mul_right, arith}
+use Rattle.std.proofs.Common.{◌≡◌, ℕ, suc, ◌+◌, ◌*◌, ◌/◌, ◌<◌, ◌≤◌, true, leb, ◌⊎◌, List, [], ◌∷◌, length, is_some, Some, None, Option, Ordering, Equal, sym, refl, ap, ◌∙◌, subst, inl, inr, true≢false, mul-le-mul_right, arith}
 use Rattle.std.specs.Cmp.{ranks}
 use Rattle.std.specs.Option.{option_map}
 use Rattle.std.specs.List.{ContainsAt as Has}

@@ -1,5 +1,5 @@
 -- Every call is made of steps, and so is every run.
-use Rattle.std.proofs.Common.{◌≡◌, ℕ, Bool, true, false, cond, not, ◌&&◌, ◌||◌, List, [], ◌∷◌, ℤ, pos, Some, None, Ok, Err, Option, sym, refl, ap, ◌∙◌, subst}
+use Rattle.std.proofs.Common.{◌≡◌, ℕ, Bool, true, false, cond, not, ◌&&◌, List, [], ◌∷◌, ℤ, pos, Some, None, Ok, Err, Option, refl}
 use lib.Signed.{lt_z}
 use Rattle.std.proofs.lemmas.Bool.{or_parts}
 use Rattle.host.specs.Meaning.{Answer}
@@ -10,7 +10,7 @@ use Rattle.rules.specs.declared.refusal.Refusal.TheVariants as no
 use Rattle.rules.specs.Books.{Books, World, world}
 use Rattle.rules.specs.Links.{or_else, out_of_range, link_refusal}
 use Rattle.rules.specs.Replacing.{replace_refusal}
-use Rattle.rules.specs.HandingOut.{next_at, popped}
+use Rattle.rules.specs.HandingOut.{next_at}
 use Rattle.rules.specs.Stabilizing.{stabilized_at}
 use Rattle.rules.specs.Calls as call
 use Rattle.rules.specs.Runs.{Call, Start, Link, Replace, Next, Stabilize, Pop, step, run_from}

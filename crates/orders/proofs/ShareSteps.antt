@@ -1,9 +1,9 @@
 -- The share of Free segments is kept with all the rest. In a start, it holds of the segments looked at so far.
-use Rattle.std.proofs.Common.{◌≡◌, ℕ, zero, suc, ◌+◌, ◌-◌, ◌*◌, ◌/◌, ◌<◌, ◌≤◌, Bool, true, false, cond, not, eqb, ltb, List, [], ◌∷◌, ◌++◌, length, get_or, take, set, ℤ, is_some, Some, None, Ok, filter, Option, sym, refl, ap, ◌∙◌, subst, true≢false, mul-div_cancel, arith}
+use Rattle.std.proofs.Common.{◌≡◌, ℕ, suc, ◌+◌, ◌-◌, ◌*◌, ◌/◌, ◌<◌, ◌≤◌, Bool, true, false, cond, not, eqb, ltb, List, [], ◌∷◌, ◌++◌, length, get_or, take, set, ℤ, is_some, Some, None, sym, refl, ap, ◌∙◌, subst, true≢false, mul-div_cancel, arith}
 use Rattle.std.specs.List.{ContainsAt as Has}
-use Rattle.std.proofs.lemmas.Bool.{and_parts, eqb-false, not-true, ltb-true, lt-ltb}
+use Rattle.std.proofs.lemmas.Bool.{and_parts, eqb-false, not-true, lt-ltb}
 use Rattle.table.specs.Order.{unsigned_lawful}
-use Rattle.table.specs.Rows.{every, find, insert_row, remove_row, own_key}
+use Rattle.table.specs.Rows.{every, find, remove_row, own_key}
 use Rattle.table.proofs.Laws.{find_first, has_find, length_insert_new, length_remove}
 use Rattle.host.specs.Meaning.{Answer}
 use Rattle.segment.specs.Changes.{closed, drained, emptied, opened}
@@ -14,10 +14,9 @@ use Rattle.segment.specs.declared.rows.OrderingRow.{OrderingRow}
 use Rattle.segment.specs.declared.state.Draining.{Draining}
 use Rattle.segment.specs.declared.state.State.{State}
 use Rattle.segment.specs.declared.state.State.TheVariants as is
-use Rattle.rules.specs.Books.{Books, with_segments, with_ordering, with_freeable, unused, state_of, offset_of}
+use Rattle.rules.specs.Books.{Books, with_ordering, unused, state_of, offset_of}
 use Rattle.rules.specs.Pages.{page_count, left_count}
 use Rattle.rules.specs.Freeing.{put_free, is_free_offset, can_cut, lowered}
-use Rattle.rules.specs.Cleaning.{emptied_at, held_by}
 use Rattle.rules.specs.Links.{info_segment, linked_state}
 use Rattle.rules.specs.Stabilizing.{is_free, free_below_tip, number_of_lsn}
 use Rattle.rules.specs.HandingOut.{entered, rest_of, risen, handed_out}
@@ -33,7 +32,7 @@ use Rattle.orders.proofs.Replaces.{reached}
 use Rattle.orders.proofs.Stabilizes.{signed_laws}
 use Rattle.orders.proofs.LookSteps.{linked_label, taken_label, entered_state, number_at_is}
 use Rattle.orders.proofs.Fresh.{Fresh, Progress}
-use Rattle.orders.proofs.BookSteps.{Recovering, Freeing, least_reached}
+use Rattle.orders.proofs.BookSteps.{Recovering, Freeing}
 use Rattle.orders.proofs.Spreads.{none_of, not_offered, cut_less}
 use Rattle.orders.proofs.WholeSteps.{Left, whole_steps, whole_beginning, entered_length}
 use Rattle.orders.proofs.Shares.{count, one_if, set_count, set_same, take_next, entered_take}

@@ -1,7 +1,6 @@
 -- Each step changes the number of Free segments below the tip as it changes the free list and the freeable rows.
-use Rattle.std.proofs.Common.{◌≡◌, ℕ, zero, suc, ◌+◌, ◌-◌, ◌*◌, ◌/◌, ◌<◌, ◌≤◌, Bool, true, false, cond, ltb, List, [], ◌∷◌, ◌++◌, length, get_or, take, set, ℤ, filter, sym, refl, ap, ◌∙◌, subst, true≢false, arith}
+use Rattle.std.proofs.Common.{◌≡◌, ℕ, zero, suc, ◌+◌, ◌<◌, ◌≤◌, Bool, true, false, cond, ltb, List, [], ◌∷◌, ◌++◌, length, get_or, take, set, filter, refl, ap, ◌∙◌, arith}
 use Rattle.std.proofs.lemmas.List.{take-set, take-append-le}
-use Rattle.std.proofs.lemmas.Bool.{ltb-false}
 use Rattle.segment.specs.declared.state.State.{State}
 use Rattle.rules.specs.Books.{unused}
 use Rattle.rules.specs.Stabilizing.{is_free}

@@ -1,5 +1,5 @@
 -- What joins the free list leaves the ordering, and what is handed out goes back; a cut takes one from the free list and one from the tip.
-use Rattle.std.proofs.Common.{◌≡◌, ℕ, zero, suc, ◌+◌, ◌-◌, ◌*◌, ◌/◌, ◌<◌, ◌≤◌, Bool, true, false, cond, not, ◌&&◌, eqb, ltb, List, [], ◌∷◌, ◌++◌, length, get_or, ℤ, is_some, Some, None, Ok, Err, Option, sym, refl, ap, ◌∙◌, subst, true≢false, mul-div_cancel, arith}
+use Rattle.std.proofs.Common.{◌≡◌, ℕ, suc, ◌+◌, ◌-◌, ◌*◌, ◌/◌, ◌<◌, ◌≤◌, Bool, true, false, not, eqb, ltb, List, [], ◌∷◌, length, ℤ, is_some, Some, None, Ok, Err, Option, sym, refl, ap, ◌∙◌, true≢false, mul-div_cancel, arith}
 use Rattle.std.specs.Option.{option_map}
 use Rattle.std.proofs.lemmas.Bool.{and_parts, eqb-false, not-true}
 use Rattle.table.specs.Order.{unsigned_lawful, signed_lawful}
@@ -11,7 +11,7 @@ use Rattle.segment.specs.declared.rows.FaultRow.{FaultRow}
 use Rattle.segment.specs.declared.rows.OrderingRow.{OrderingRow}
 use Rattle.segment.specs.declared.state.State.{State}
 use Rattle.segment.specs.declared.state.State.TheVariants as is
-use Rattle.rules.specs.Books.{Books, state_of, segment_of, offset_of}
+use Rattle.rules.specs.Books.{Books, state_of, offset_of}
 use Rattle.rules.specs.Freeing.{without_lsn, unordered, put_free, is_free_offset, can_cut, remembered, lowered}
 use Rattle.rules.specs.Stabilizing.{is_free}
 use Rattle.rules.specs.HandingOut.{in_use, risen, rest_of, handed_out}

@@ -1,12 +1,12 @@
 -- Stabilizing is made of steps: each released segment's row is still there, and nothing but a close changes a state on the way.
-use Rattle.std.proofs.Common.{◌≡◌, ℕ, zero, suc, ◌+◌, ◌-◌, ◌<◌, ◌≤◌, Bool, true, false, cond, not, ◌&&◌, List, [], ◌∷◌, length, get_or, ℤ, pos, Some, None, Ok, Err, Option, Ordering, Equal, sym, refl, ap, ◌∙◌, subst, true≢false, arith}
+use Rattle.std.proofs.Common.{◌≡◌, ℕ, suc, ◌-◌, ◌≤◌, Bool, true, false, cond, not, ◌&&◌, List, [], ◌∷◌, get_or, ℤ, pos, Some, None, Ok, Err, Option, Ordering, Equal, sym, refl, ap, ◌∙◌, subst, true≢false, arith}
 use lib.Signed.{lt_z}
-use Rattle.std.specs.Ordering.{is_lt, is_eq}
+use Rattle.std.specs.Ordering.{is_lt}
 use Rattle.std.specs.List.{ContainsAt as Has}
 use Rattle.std.proofs.lemmas.Bool.{and_parts}
 use Rattle.table.specs.Order.{Lawful, unsigned_lawful, signed_lawful, lexical_lawful}
 use Rattle.table.specs.Rows.{every, ascending, remove_row}
-use Rattle.table.proofs.Orders.{every_has, less_from, rank_same}
+use Rattle.table.proofs.Orders.{every_has, rank_same}
 use Rattle.table.proofs.Filters.{ascending_kept, has_from_kept}
 use Rattle.table.proofs.Laws.{has_remove_other}
 use Rattle.host.specs.Meaning.{Answer}
@@ -18,10 +18,9 @@ use Rattle.segment.specs.declared.state.Active.{Active}
 use Rattle.segment.specs.declared.state.Inactive.{Inactive}
 use Rattle.segment.specs.declared.state.State.{State}
 use Rattle.segment.specs.declared.state.State.TheVariants as is
-use Rattle.rules.specs.Books.{Books, World, world, with_freeable, with_blobs, with_stabilized, unused, state_of}
-use Rattle.rules.specs.Freeing.{freed}
+use Rattle.rules.specs.Books.{Books, World, world, with_freeable, with_blobs, unused, state_of}
 use Rattle.rules.specs.Links.{out_of_range}
-use Rattle.rules.specs.Stabilizing.{much_is_free, free_below_tip, inactive_count, inactive_at, first_some, last_inactive, drain_found, drained_by_share, blobs_of, blobs_off, held_back_by, closed_at, number_of_lsn, level, is_settled, ripe, remove_blobs, release, release_all, opened_up, shut, shared, deactivated_by, deactivate_state, deactivated, then_deactivated, deactivate_all, stabilized_to, stabilized_at}
+use Rattle.rules.specs.Stabilizing.{much_is_free, free_below_tip, inactive_count, inactive_at, first_some, last_inactive, drain_found, drained_by_share, blobs_of, blobs_off, held_back_by, number_of_lsn, level, is_settled, remove_blobs, release, release_all, opened_up, shut, shared, deactivated_by, deactivate_state, deactivated, then_deactivated, deactivate_all, stabilized_to, stabilized_at}
 use Rattle.orders.proofs.Steps.{Steps}
 use Rattle.orders.proofs.Cleans.{freed_segments, freed_freeable, freed_keeps, cleaned_keeps}
 

@@ -1,5 +1,5 @@
 -- The small steps that every call is made of. Whatever holds of blank books and is kept by each of them holds after every run.
-use Rattle.std.proofs.Common.{◌≡◌, ℕ, suc, ◌*◌, ◌<◌, Bool, true, false, not, ◌&&◌, ltb, leb, List, [], ◌∷◌, length, ℤ, pos, nat_abs, Some, None, Ok, Option, unwrap_or}
+use Rattle.std.proofs.Common.{◌≡◌, ℕ, suc, ◌*◌, ◌<◌, true, false, not, ◌&&◌, ltb, leb, List, [], ◌∷◌, length, ℤ, pos, nat_abs, Some, None, Ok, unwrap_or}
 use lib.Signed.{lt_z}
 use Rattle.std.specs.List.{ContainsAt as Has}
 use Rattle.table.specs.Rows.{insert_row, remove_row, own_key}
@@ -7,16 +7,13 @@ use Rattle.host.specs.Meaning.{Answer}
 use Rattle.segment.specs.Pointers.{blob_of}
 use Rattle.segment.specs.Rows.{page_key, by_page, freeable_key, by_signed}
 use Rattle.segment.specs.declared.cache_info.CacheInfo.{CacheInfo}
-use Rattle.segment.specs.declared.rows.FaultRow.{FaultRow}
 use Rattle.segment.specs.declared.rows.FreeableRow.{FreeableRow}
 use Rattle.segment.specs.declared.rows.OrderingRow.{OrderingRow}
 use Rattle.segment.specs.declared.rows.PageRow.{PageRow}
 use Rattle.segment.specs.declared.snapshot.SnapshotRow.{SnapshotRow}
 use Rattle.segment.specs.declared.state.Active.{Active}
 use Rattle.segment.specs.declared.state.Draining.{Draining}
-use Rattle.segment.specs.declared.state.Free.{Free}
 use Rattle.segment.specs.declared.state.Inactive.{Inactive}
-use Rattle.segment.specs.declared.state.State.{State}
 use Rattle.segment.specs.declared.state.State.TheVariants as is
 use Rattle.rules.specs.Books.{Books, with_pages, with_blobs, with_freeable, with_listed, with_faults, with_ordering, with_stabilized, state_of, segment_of}
 use Rattle.rules.specs.Pages.{queue_of, queued_row}

@@ -1,12 +1,10 @@
 -- How many rows a test keeps after an edit.
-use Rattle.std.proofs.Common.{◌≡◌, ℕ, zero, suc, ◌+◌, ◌<◌, ◌≤◌, Bool, true, false, cond, not, ◌&&◌, ◌⊎◌, List, [], ◌∷◌, map, length, Some, None, filter, Option, Ordering, Less, Equal, Greater, sym, refl, ap, ◌∙◌, subst, inl, inr, true≢false, arith}
-use Rattle.std.specs.Ordering.{is_eq}
+use Rattle.std.proofs.Common.{◌≡◌, ℕ, ◌+◌, Bool, true, false, cond, not, ◌&&◌, ◌⊎◌, List, [], ◌∷◌, map, length, Some, None, filter, Ordering, Less, Equal, Greater, sym, refl, ap, ◌∙◌, inl, inr, true≢false, arith}
 use Rattle.std.proofs.lemmas.Bool.{cases_eq}
-use Rattle.table.specs.Rows.{by, find_by, put_by, find, insert_row}
+use Rattle.table.specs.Rows.{by, find_by, put_by}
 use Rattle.table.proofs.Filters.{kept_kept, kept_same}
-use Rattle.segment.specs.Rows.{page_key, by_page}
 use Rattle.segment.specs.declared.rows.PageRow.{PageRow}
-use Rattle.rules.specs.Pages.{is_in, rows_of, rows_off, all_queued, queued_row, page_count, left_count}
+use Rattle.rules.specs.Pages.{is_in, rows_of, rows_off, left_count}
 use Rattle.orders.proofs.Alone.{rank_other}
 
 abbrev one_if : Bool → ℕ

@@ -1,8 +1,6 @@
 -- The record of facts and the test say the same.
-use Rattle.std.proofs.Common.{◌≡◌, Bool, true, ◌&&◌}
+use Rattle.std.proofs.Common.{◌≡◌, true}
 use Rattle.std.proofs.lemmas.Bool.{and_parts, and_from}
-use Rattle.table.specs.Rows.{ascending, own_key}
-use Rattle.segment.specs.Rows.{ordering_key, page_key, blob_key, freeable_key, fault_key, by_page, by_signed}
 use Rattle.rules.specs.Books.{Books}
 use Rattle.orders.specs.Ordered.{Ordered, ordered}
 use Rattle.orders.specs.Within.{Within, within}

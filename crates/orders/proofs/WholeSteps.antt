@@ -2,12 +2,12 @@
 use Rattle.std.proofs.Common.{◌≡◌, ℕ, zero, suc, ◌+◌, ◌-◌, ◌*◌, ◌/◌, ◌<◌, ◌≤◌, Bool, true, false, cond, not, ltb, List, [], ◌∷◌, ◌++◌, length, get_or, drop, set, ℤ, is_some, Some, None, Ok, Err, filter, Option, Result, sym, refl, ap, ◌∙◌, subst, true≢false, mul-div_cancel, arith}
 use Rattle.std.specs.List.{ContainsAt as Has}
 use Rattle.std.proofs.lemmas.List.{length-set, length-append, get_or-set_same}
-use Rattle.std.proofs.lemmas.Bool.{and_parts, ltb-true, ltb-false}
+use Rattle.std.proofs.lemmas.Bool.{and_parts, ltb-true}
 use Rattle.table.specs.Order.{unsigned_lawful, signed_lawful}
 use Rattle.table.specs.Rows.{every, find, insert_row, remove_row, own_key}
 use Rattle.table.proofs.Laws.{has_find, length_insert_new}
 use Rattle.host.specs.Meaning.{Answer}
-use Rattle.segment.specs.Changes.{emptied, opened, closed, drained}
+use Rattle.segment.specs.Changes.{emptied, drained}
 use Rattle.segment.specs.Rows.{ordering_key, freeable_key, by_signed}
 use Rattle.segment.specs.declared.rows.FreeableRow.{FreeableRow}
 use Rattle.segment.specs.declared.rows.OrderingRow.{OrderingRow}
@@ -19,10 +19,10 @@ use Rattle.rules.specs.Books.{Books, with_segments, with_ordering, with_freeable
 use Rattle.rules.specs.Freeing.{without_lsn, unordered, put_free, can_cut, lowered}
 use Rattle.rules.specs.Cleaning.{emptied_at}
 use Rattle.rules.specs.Stabilizing.{is_free, number_of_lsn}
-use Rattle.rules.specs.HandingOut.{entered, handed_out}
+use Rattle.rules.specs.HandingOut.{entered}
 use Rattle.rules.specs.Starting.{Plan, blank, with_active, order_state, order_then, order_all}
 use Rattle.orders.specs.Within.{Within}
-use Rattle.orders.specs.Looks.{label, ordered_at, holds_back, offers, Looks}
+use Rattle.orders.specs.Looks.{label, offers, Looks}
 use Rattle.orders.specs.Counts.{Counting}
 use Rattle.orders.specs.Spread.{Spread, Whole}
 use Rattle.orders.proofs.Steps.{Steps, Beginning}

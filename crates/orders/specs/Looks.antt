@@ -1,5 +1,5 @@
 -- What the states, the ordering, the free list and the freeable rows say of each other.
-use Rattle.std.specs.Prelude.{◌≡◌, ℕ, ◌/◌, ◌<◌, ◌≤◌, Bool, true, false, ℤ, is_some, Some, None, Option, ◌≢◌}
+use Rattle.std.specs.Prelude.{◌≡◌, ℕ, ◌/◌, ◌<◌, ◌≤◌, Bool, true, false, ℤ, is_some, Some, Option, ◌≢◌}
 use Rattle.std.specs.Option.{option_map}
 use Rattle.table.specs.Rows.{find}
 use Rattle.segment.specs.Rows.{ordering_key, freeable_key, by_signed}

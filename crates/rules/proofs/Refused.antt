@@ -1,5 +1,5 @@
 -- Each run is computed.
-use Rattle.std.proofs.Common.{◌≡◌, refl}
+use Rattle.std.proofs.Common.{refl}
 use lib.Count.{ones}
 use Rattle.rules.specs.Runs.{run_from}
 use Rattle.rules.specs.Freeing.{cut_tail}

@@ -1,5 +1,5 @@
 -- The books (docs/RULES.md, section 2): plain numbers, states and rows. Each table ascends by the key of its rows.
-use Rattle.std.specs.Prelude.{ℕ, ◌*◌, ◌/◌, List, [], ℤ, None, slice_index_or}
+use Rattle.std.specs.Prelude.{ℕ, ◌*◌, ◌/◌, List, ℤ, None, slice_index_or}
 use Rattle.segment.specs.declared.state.State.{State}
 use Rattle.segment.specs.declared.state.State.TheVariants as is
 use Rattle.segment.specs.declared.rows.OrderingRow.{OrderingRow}

@@ -1,5 +1,5 @@
 -- Cleaning a segment: it starts draining, and is held back or freed once none of its pages is left (docs/RULES.md, section 8).
-use Rattle.std.specs.Prelude.{ℕ, ◌*◌, ◌/◌, Bool, true, false, cond, List, ℤ, Some, None, Option, ◌==◌, nat_le, slice_set}
+use Rattle.std.specs.Prelude.{ℕ, ◌*◌, ◌/◌, Bool, true, false, cond, ℤ, Some, None, Option, ◌==◌, nat_le, slice_set}
 use Rattle.table.specs.Rows.{find, insert_row, own_key}
 use Rattle.host.specs.Meaning.{Answer}
 use Rattle.host.specs.declared.request.Request.{Request}

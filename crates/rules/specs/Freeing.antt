@@ -1,5 +1,5 @@
 -- Freeing a segment, with the cuts that follow (docs/RULES.md, section 8).
-use Rattle.std.specs.Prelude.{ℕ, zero, suc, ◌-◌, Bool, true, false, cond, not, ◌&&◌, List, length, ℤ, is_some, Some, None, Ok, Err, Option, ◌==◌, nat_lt}
+use Rattle.std.specs.Prelude.{ℕ, zero, suc, ◌-◌, Bool, cond, not, ◌&&◌, List, length, ℤ, is_some, Some, None, Ok, Err, Option, ◌==◌, nat_lt}
 use Rattle.table.specs.Rows.{find, insert_row, remove_row, own_key}
 use Rattle.host.specs.Meaning.{Answer, asked_cut, code_of, layer_of}
 use Rattle.host.specs.declared.request.Request.{Request}

@@ -1,5 +1,5 @@
 -- Next and pop (docs/RULES.md, sections 10 and 11).
-use Rattle.std.specs.Prelude.{ℕ, ◌+◌, ◌*◌, ◌%◌, Bool, true, false, cond, not, ◌&&◌, ◌||◌, List, [], ◌∷◌, ◌++◌, length, ℤ, pos, is_some, Some, None, Ok, Err, Option, Result, ◌==◌, nat_le, nat_lt, slice_set, unsigned_abs}
+use Rattle.std.specs.Prelude.{ℕ, ◌+◌, ◌*◌, ◌%◌, Bool, false, cond, not, List, [], ◌∷◌, ◌++◌, length, ℤ, is_some, Some, None, Ok, Err, Option, Result, ◌==◌, nat_le, nat_lt, slice_set, unsigned_abs}
 use Rattle.table.specs.Rows.{find, insert_row, remove_row, own_key, first_of}
 use Rattle.host.specs.declared.request.HostFault.{HostFault}
 use Rattle.host.specs.declared.request.HostFault.TheVariants as fault

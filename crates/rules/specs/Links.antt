@@ -1,5 +1,5 @@
 -- Link (docs/RULES.md, section 6): its checks, and what it adds.
-use Rattle.std.specs.Prelude.{ℕ, ◌+◌, ◌^◌, Bool, true, false, cond, not, ◌&&◌, ◌||◌, List, [], ◌∷◌, length, ℤ, pos, is_some, Some, None, Option, int_le, int_lt, nat_le, nat_lt, slice_set}
+use Rattle.std.specs.Prelude.{ℕ, ◌+◌, ◌^◌, Bool, true, cond, not, ◌&&◌, ◌||◌, List, [], ◌∷◌, length, ℤ, pos, is_some, Some, None, Option, int_le, int_lt, nat_le, nat_lt, slice_set}
 use Rattle.segment.specs.Bases.{base_of}
 use Rattle.segment.specs.Pointers.{lid_of}
 use Rattle.segment.specs.Signs.{same_z}

@@ -1,6 +1,6 @@
 -- Replace (docs/RULES.md, section 7): its checks, and what it does.
-use Rattle.std.specs.Prelude.{ℕ, ◌+◌, ◌-◌, Bool, true, false, cond, not, ◌&&◌, ◌||◌, List, [], ◌∷◌, length, ℤ, is_some, Some, None, Option, int_lt, nat_lt, slice_set}
-use Rattle.table.specs.Rows.{every, find, insert_row}
+use Rattle.std.specs.Prelude.{ℕ, ◌+◌, ◌-◌, Bool, false, cond, not, List, [], ◌∷◌, length, ℤ, Some, None, Option, int_lt, nat_lt, slice_set}
+use Rattle.table.specs.Rows.{every, insert_row}
 use Rattle.host.specs.Meaning.{Answer}
 use Rattle.host.specs.declared.request.Request.{Request}
 use Rattle.segment.specs.Bases.{base_of}

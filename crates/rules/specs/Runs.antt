@@ -1,5 +1,5 @@
 -- Runs: a new accountant over a host, and any list of calls.
-use Rattle.std.specs.Prelude.{ℕ, List, [], ◌∷◌, ◌++◌, ℤ, None, Ok, Err, Option, Result}
+use Rattle.std.specs.Prelude.{ℕ, List, [], ◌∷◌, ◌++◌, ℤ, Ok, Err, Option, Result}
 use Rattle.host.specs.Meaning.{Answer}
 use Rattle.host.specs.declared.request.Request.{Request}
 use Rattle.segment.specs.declared.cache_info.CacheInfo.{CacheInfo}

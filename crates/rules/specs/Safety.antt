@@ -1,5 +1,5 @@
 -- What is promised of every run (docs/RULES.md, section 13), in five parts.
-use Rattle.std.specs.Prelude.{◌≡◌, ℕ, ◌-◌, ◌*◌, ◌/◌, ◌<◌, ◌≤◌, Bool, true, false, cond, not, ◌&&◌, ◌⊎◌, List, [], ◌∷◌, ℤ, pos, ◌≤ℤ◌, Some, None, Ok, Option}
+use Rattle.std.specs.Prelude.{◌≡◌, ℕ, ◌-◌, ◌*◌, ◌/◌, ◌<◌, ◌≤◌, Bool, true, false, cond, ◌&&◌, ◌⊎◌, List, [], ◌∷◌, ℤ, pos, ◌≤ℤ◌, Some, None, Ok, Option}
 use Rattle.std.specs.List.{ContainsAt as Has}
 use Rattle.table.specs.Rows.{ascending, own_key}
 use Rattle.host.specs.Meaning.{Answer, asked_cut, asked_remove}

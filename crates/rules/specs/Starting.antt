@@ -1,5 +1,5 @@
 -- Start (docs/RULES.md, section 5): the checks of a snapshot, the segments recovered from it, and the free ones freed.
-use Rattle.std.specs.Prelude.{ℕ, suc, ◌+◌, ◌*◌, ◌/◌, ◌%◌, ◌^◌, Bool, true, false, cond, not, ◌&&◌, ◌||◌, List, [], ◌∷◌, ◌++◌, map, length, take, drop, set, replicate, ℤ, pos, negsuc, is_some, Some, None, Ok, Err, Option, Result, ◌==◌, count_ones, nat_le, nat_lt, slice_set}
+use Rattle.std.specs.Prelude.{ℕ, suc, ◌+◌, ◌*◌, ◌/◌, ◌%◌, ◌^◌, Bool, false, cond, not, ◌&&◌, ◌||◌, List, [], ◌∷◌, length, take, drop, replicate, ℤ, pos, negsuc, is_some, Some, None, Ok, Err, Option, Result, ◌==◌, count_ones, nat_le, nat_lt, slice_set}
 use Rattle.std.specs.Option.{unwrap_or}
 use Rattle.table.specs.Rows.{every, find, insert_row}
 use Rattle.host.specs.Meaning.{Answer, asked_fill}
@@ -21,7 +21,7 @@ use Rattle.rules.specs.declared.refusal.Refusal.TheVariants as no
 use Rattle.rules.specs.Books.{Books, books, World, world, with_segments, with_ordering, unused, state_of, offset_of, segment_of}
 use Rattle.rules.specs.Freeing.{freed}
 use Rattle.rules.specs.HandingOut.{cut_fault}
-use Rattle.rules.specs.Links.{first_refusal, or_else, out_of_range, too_large, page_rows_full, linked_at}
+use Rattle.rules.specs.Links.{first_refusal, out_of_range, too_large, page_rows_full, linked_at}
 use Rattle.rules.specs.Stabilizing.{is_free}
 use Rattle.std.specs.Ordering.{int_cmp}
 

@@ -1,5 +1,5 @@
 -- The worked runs (docs/RULES.md, section 14): call lists over a memory host at S = 512, their replies, and what is then in the books.
-use Rattle.std.specs.Prelude.{◌≡◌, ℕ, zero, suc, ◌+◌, ◌*◌, List, [], ◌∷◌, ◌++◌, ℤ, pos, Some, None, Ok, Option}
+use Rattle.std.specs.Prelude.{◌≡◌, ℕ, zero, suc, ◌*◌, List, [], ◌∷◌, ◌++◌, pos, Some, None, Ok, Option}
 use Rattle.host.specs.Meaning.{asked_cut}
 use Rattle.memory_host.specs.Memory.{MemoryModel, memory_made, memory_respond}
 use Rattle.segment.specs.Pointers.{inline}

@@ -1,10 +1,8 @@
 -- Link, replace and stabilize, once accepted, keep the books sound: the invariant, the signs, the live bytes and the blob rows.
-use Rattle.std.proofs.Common.{◌≡◌, ℕ, zero, suc, ◌+◌, ◌-◌, ◌*◌, ◌/◌, ◌^◌, ◌<◌, ◌≤◌, Bool, true, false, cond, not, ◌&&◌, ◌||◌, eqb, ltb, leb, ◌⊎◌, List, [], ◌∷◌, length, get_or, set, ℤ, pos, negsuc, ◌+ℤ◌, ◌-ℤ◌, nat_abs, Some, None, Option, Ordering, Less, Equal, Greater, sym, refl, ap, ◌∙◌, subst, inl, inr, arith}
-use mathlib.Core.Path.{fun_ext}
-use lib.Signed.{le_z, lt_z, non_neg}
+use Rattle.std.proofs.Common.{◌≡◌, ℕ, zero, suc, ◌+◌, ◌-◌, ◌*◌, ◌/◌, ◌<◌, ◌≤◌, Bool, true, false, cond, not, ltb, ◌⊎◌, List, [], ◌∷◌, length, ℤ, pos, negsuc, ◌+ℤ◌, nat_abs, Some, None, Option, Ordering, Less, Equal, Greater, sym, refl, ap, ◌∙◌, subst, inl, inr, arith}
+use lib.Signed.{lt_z, non_neg}
 use Rattle.std.specs.List.{ContainsAt as Has}
-use Rattle.std.proofs.lemmas.Int.{ints}
-use Rattle.std.proofs.lemmas.Bool.{cases_eq, eq-eqb, ne_eqb, eqb-true, and_parts, and_from, true≢false, not-true}
+use Rattle.std.proofs.lemmas.Bool.{cases_eq, eq-eqb, ne_eqb, eqb-true, true≢false}
 use Rattle.std.proofs.lemmas.List.{get_or-set_same, get_or-set_other}
 use Rattle.table.specs.Rows.{every, by, put_by, insert_row, towards}
 use Rattle.host.specs.Meaning.{Answer}
@@ -16,23 +14,22 @@ use Rattle.segment.specs.Signs.{same_z}
 use Rattle.segment.specs.Updates.{linked}
 use Rattle.segment.specs.declared.cache_info.CacheInfo.{CacheInfo}
 use Rattle.segment.specs.declared.rows.BlobRow.{BlobRow}
-use Rattle.segment.specs.declared.rows.PageRow.{PageRow}
 use Rattle.segment.specs.declared.state.State.{State}
 use Rattle.segment.specs.declared.state.State.TheVariants as is
 use Rattle.segment.specs.declared.state.Active as active-state
 use Rattle.rules.specs.declared.refusal.Refusal.{Refusal}
-use Rattle.rules.specs.Books.{Books, World, world, unused, state_of, with_blobs, segment_of}
+use Rattle.rules.specs.Books.{Books, World, world, unused, state_of, with_blobs}
 use Rattle.rules.specs.Pages.{page_row, is_left, is_lying}
-use Rattle.rules.specs.Links.{first_refusal, or_else, into_state, into_active, into_closed, info_segment, link_refusal, linked_state, linked_at, link_of, page_rows_full}
-use Rattle.rules.specs.Replacing.{same_blob, blob_row, with_blob, given_up, sums_of, from_closed, from_state, olds_refusal, replace_refusal, blobs_given_up, visited, replaced}
+use Rattle.rules.specs.Links.{or_else, into_state, info_segment, link_refusal, linked_state, linked_at, link_of}
+use Rattle.rules.specs.Replacing.{same_blob, blob_row, with_blob, given_up, sums_of, from_closed, from_state, olds_refusal, replace_refusal, visited, replaced}
 use Rattle.rules.specs.Recount.{Recount, recount, upd, told_bytes, told_info, told_blob, told_olds, told_replace}
 use Rattle.rules.specs.Runs.{Log, recorded}
-use Rattle.safety.proofs.Plain.{Seg, seg_is_free, active, here, mapped, mem, Count, counted, told_link, seen}
+use Rattle.safety.proofs.Plain.{Seg, seg_is_free, active, here, counted, told_link, seen}
 use Rattle.safety.proofs.Views.{Holders, Inv}
 use Rattle.safety.proofs.Looks.{seg_of, row_of, mark}
 use Rattle.safety.proofs.Moves.{Moved, moved_refl}
-use Rattle.safety.proofs.Steps.{Setting, view_of, Plus, Whole, clear, Good, Went, reach}
-use Rattle.safety.proofs.Frames.{Weighs, Lighter}
+use Rattle.safety.proofs.Steps.{Setting, view_of, Plus, Whole, clear, Good, reach}
+use Rattle.safety.proofs.Frames.{Weighs}
 use Rattle.safety.proofs.Deacts.{has_first, has_later, Blobs, blobs_whole}
 use Rattle.safety.proofs.Takes.{linked_good}
 use Rattle.safety.proofs.Visits.{lying_here, enough, Fits, FitAll, keys, told_aways, less_sums, Bytes, Opens, Visited, visited_good}

@@ -1,54 +1,37 @@
 -- Each call on sound books leaves sound books, and a log whose cuts lie at or above the tip and whose removed blobs were given up.
-use Rattle.std.proofs.Common.{◌≡◌, ℕ, zero, suc, ◌+◌, ◌-◌, ◌*◌, ◌/◌, ◌<◌, ◌≤◌, Bool, true, false, cond, not, ◌&&◌, ◌||◌, eqb, ltb, leb, ◌⊎◌, List, [], ◌∷◌, length, get_or, ℤ, pos, negsuc, nat_abs, is_some, Some, None, Ok, Err, Option, Result, sym, refl, ap, ◌∙◌, subst, inl, inr, arith}
+use Rattle.std.proofs.Common.{◌≡◌, ℕ, zero, suc, ◌/◌, Bool, true, false, cond, not, ◌&&◌, ◌||◌, List, [], ◌∷◌, get_or, ℤ, pos, negsuc, Some, None, Option, sym, refl, ap, ◌∙◌, subst, arith}
 use lib.Signed.{le_z, lt_z, non_neg}
 use Rattle.std.specs.List.{ContainsAt as Has}
 use Rattle.std.proofs.lemmas.Bool.{cases_eq, cases_lt, eq-eqb, ne_eqb, eqb-true, and_parts, and_from, true≢false, not-true, ltb-true}
-use Rattle.table.specs.Order.{unsigned_lawful}
-use Rattle.table.specs.Rows.{every, find, insert_row, remove_row, ascending, own_key, towards, first_of}
+use Rattle.table.specs.Rows.{every, find, insert_row, remove_row, own_key, towards}
 use Rattle.table.proofs.Laws.{ascending_insert, has_find}
 use Rattle.table.proofs.Filters.{has_from_kept}
 use Rattle.host.specs.Meaning.{Answer}
 use Rattle.host.specs.declared.request.Request.{Request}
-use Rattle.segment.specs.Changes.{opened}
-use Rattle.segment.specs.Rows.{page_key, by_page, ordering_key}
+use Rattle.segment.specs.Rows.{page_key, by_page}
 use Rattle.segment.specs.Signs.{same_z}
-use Rattle.segment.specs.declared.cache_info.CacheInfo.{CacheInfo}
 use Rattle.segment.specs.declared.rows.PageRow.{PageRow}
 use Rattle.segment.specs.declared.rows.FaultRow.{FaultRow}
-use Rattle.segment.specs.declared.rows.BlobRow.{BlobRow}
-use Rattle.segment.specs.declared.rows.OrderingRow.{OrderingRow}
 use Rattle.segment.specs.declared.state.State.{State}
-use Rattle.segment.specs.declared.state.State.TheVariants as is
-use Rattle.segment.specs.declared.state.Active as active-state
-use Rattle.rules.specs.declared.refusal.Refusal.{Refusal}
-use Rattle.rules.specs.declared.refusal.Refusal.TheVariants as no
-use Rattle.rules.specs.Books.{Books, World, world, unused, state_of, segment_of, with_listed, with_pages, with_faults}
-use Rattle.rules.specs.Calls as call
-use Rattle.rules.specs.HandingOut.{unaligned, in_use, at_tip, offered, handed_out, next_by, next_at, first_listed, popped_from, popped_at, popped}
-use Rattle.rules.specs.Links.{out_of_range, or_else, link_refusal}
+use Rattle.rules.specs.Books.{Books, World, world, unused, state_of, segment_of, with_listed, with_faults}
+use Rattle.rules.specs.HandingOut.{popped_from, popped_at}
 use Rattle.rules.specs.Pages.{is_in, queue_of, queued_row, rows_of}
-use Rattle.rules.specs.Recount.{Recount, recount, upd, told, told_stable, told_replace, told_info}
-use Rattle.rules.specs.Recount as real
-use Rattle.rules.specs.Replacing.{replace_refusal, replaced}
-use Rattle.rules.specs.Runs.{Call, Start, Link, Replace, Next, Stabilize, Pop, Reply, Done, Gave, Popped, Refused, step, replied, Log, recorded}
+use Rattle.rules.specs.Recount.{Recount, recount, told_stable}
+use Rattle.rules.specs.Runs.{Log, recorded}
 use Rattle.rules.specs.Safety.{holds_after}
 use Rattle.rules.specs.Stabilizing.{level, stabilized_at}
-use Rattle.rules.specs.Starting.{Plan}
 use Rattle.safety.proofs.Plain.{Seg, Free, Active, seg_is_free, active, is_none, mapped, greatest, plain, Count, counted, seen, told_next}
-use Rattle.safety.proofs.Views.{View, view, Holders, Inv}
-use Rattle.safety.proofs.Looks.{page_law, seg_of, on_of, ord_of, row_of, keep_of, mark, row_insert, number_in}
+use Rattle.safety.proofs.Views.{view, Holders, Inv}
+use Rattle.safety.proofs.Looks.{page_law, seg_of, on_of, ord_of, row_of, keep_of, mark, row_insert}
 use Rattle.safety.proofs.Counts.{tally, left_in, tally_put}
 use Rattle.safety.proofs.Moves.{Moved, moved_refl}
-use Rattle.safety.proofs.Steps.{Setting, view_of, Plus, Whole, Tallied, clear, Good, even}
-use Rattle.safety.proofs.Frames.{Weighs, Lighter}
-use Rattle.safety.proofs.Deacts.{Blobs, has_first, has_later}
+use Rattle.safety.proofs.Steps.{view_of, Plus, Whole, clear, Good}
+use Rattle.safety.proofs.Frames.{Weighs}
+use Rattle.safety.proofs.Deacts.{has_first}
 use Rattle.safety.proofs.Stabilizes.{Stabilized, stabilized_good}
-use Rattle.safety.proofs.Nexts.{seg_entered, entered_same, entered_other, entered_all, handed_as, hand_tip, hand_first}
 use Rattle.safety.proofs.Takes.{upd2_id}
-use Rattle.safety.proofs.Visits.{Bytes, Opens}
-use Rattle.safety.proofs.Told.{counted_next}
-use Rattle.safety.proofs.Accepts.{calm, Sound, Accepted, or_none, link_accepted, replace_accepted, blobs_opens}
-use Rattle.safety.proofs.Holding.{is_at, at_true, at_from, at_none, none_held, words, moved_link, next_link}
+use Rattle.safety.proofs.Accepts.{calm, Sound, Accepted, blobs_opens}
+use Rattle.safety.proofs.Holding.{is_at, words, moved_link}
 use Rattle.std.specs.Ordering.{nat_cmp}
 
 -- ---- blobs that may be removed

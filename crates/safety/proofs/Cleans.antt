@@ -1,14 +1,14 @@
 -- Freeing with its cuts, holding back and cleaning a segment go well.
-use Rattle.std.proofs.Common.{◌≡◌, ℕ, zero, suc, ◌+◌, ◌-◌, ◌*◌, ◌/◌, ◌<◌, ◌≤◌, Bool, true, false, cond, not, ◌&&◌, eqb, ltb, leb, ◌⊎◌, List, [], ◌∷◌, ◌++◌, map, length, get_or, set, ℤ, pos, negsuc, nat_abs, is_some, Some, None, Ok, Err, Option, Ordering, sym, refl, ap, ◌∙◌, subst, inl, inr, suc-mul, mul-div_cancel, arith}
+use Rattle.std.proofs.Common.{◌≡◌, ℕ, zero, suc, ◌+◌, ◌-◌, ◌*◌, ◌/◌, ◌<◌, ◌≤◌, Bool, true, false, cond, not, ◌&&◌, eqb, ltb, leb, ◌⊎◌, List, [], ◌∷◌, ◌++◌, map, length, set, ℤ, pos, nat_abs, Some, None, Option, Ordering, sym, refl, ap, ◌∙◌, subst, inl, inr, suc-mul, mul-div_cancel, arith}
 use mathlib.Core.Path.{fun_ext}
-use lib.Signed.{le_z, non_neg}
+use lib.Signed.{non_neg}
 use Rattle.std.specs.Ordering.{is_lt, nat_cmp, int_cmp}
-use Rattle.std.proofs.lemmas.Bool.{cases_eq, cases_lt, eq-eqb, ne_eqb, eqb-true, eqb-false, and_parts, and_from, true≢false, ltb-true, leb-true, le-leb, cond-true, not-true}
-use Rattle.std.proofs.lemmas.List.{get_or_past, get_or-set_same, get_or-set_other, length-set, set-get_or}
-use Rattle.table.specs.Order.{Lawful, unsigned_lawful, signed_lawful}
+use Rattle.std.proofs.lemmas.Bool.{cases_eq, eq-eqb, ne_eqb, eqb-true, eqb-false, and_parts, and_from, true≢false, leb-true, le-leb, not-true}
+use Rattle.std.proofs.lemmas.List.{get_or-set_same, length-set}
+use Rattle.table.specs.Order.{unsigned_lawful}
 use Rattle.table.specs.Rows.{every, find, insert_row, remove_row, ascending, own_key, towards}
 use Rattle.table.proofs.Laws.{ascending_insert, ascending_remove, every_put, every_cut, every_mono}
-use Rattle.host.specs.Meaning.{Answer, asked_cut}
+use Rattle.host.specs.Meaning.{Answer}
 use Rattle.host.specs.declared.request.Request.{Request}
 use Rattle.host.specs.declared.request.Request.TheVariants as asked
 use Rattle.segment.specs.Changes.{drained, emptied}
@@ -19,20 +19,19 @@ use Rattle.segment.specs.declared.state.Inactive.{Inactive}
 use Rattle.segment.specs.declared.state.Draining.{Draining}
 use Rattle.segment.specs.declared.rows.OrderingRow.{OrderingRow}
 use Rattle.segment.specs.declared.rows.PageRow.{PageRow}
-use Rattle.segment.specs.declared.rows.BlobRow.{BlobRow}
 use Rattle.segment.specs.declared.rows.FreeableRow.{FreeableRow}
-use Rattle.rules.specs.Books.{Books, books, World, world, unused, state_of, offset_of, segment_of, with_segments}
-use Rattle.rules.specs.Pages.{rows_off, is_in, all_queued, queued_row}
-use Rattle.rules.specs.Freeing.{put_free, unordered, without_lsn, is_free_offset, can_cut, lowered, cut_by, cut_once, cut_tail, freed}
-use Rattle.rules.specs.Cleaning.{half_empty, start_draining, drain_by, drain_if_empty, is_active, active_at, holder, emptied_at, held_by, settle, free_by, free_if_left, cleaned}
+use Rattle.rules.specs.Books.{Books, World, world, unused, state_of, segment_of}
+use Rattle.rules.specs.Pages.{is_in, all_queued, queued_row}
+use Rattle.rules.specs.Freeing.{put_free, unordered, is_free_offset, can_cut, cut_once, cut_tail, freed}
+use Rattle.rules.specs.Cleaning.{half_empty, start_draining, drain_by, drain_if_empty, is_active, active_at, holder, emptied_at, held_by, settle, free_by, cleaned}
 use Rattle.rules.specs.Recount.{upd}
 use Rattle.rules.specs.Runs.{Log, recorded}
-use Rattle.safety.proofs.Plain.{Seg, Free, Active, Shut, seg_is_free, active, lsn_of, latest, is_none, the, here, mapped, upd2, greatest, mem, Count, count, told_next, told_link, told_away, told_stored, seen, above}
-use Rattle.safety.proofs.Views.{View, view, Holders, Inv, v_free, v_hold, v_close, free_keeps, hold_keeps, v_cut, cut_keeps, active_ord}
-use Rattle.safety.proofs.Looks.{page_law, signed_law, number_in, seg_of, on_of, ord_of, row_of, keep_of, seg_set, on_remove, row_queue, keep_insert}
+use Rattle.safety.proofs.Plain.{Seg, Free, Active, Shut, seg_is_free, active, lsn_of, latest, is_none, here, mapped, upd2, greatest, Count, seen, above}
+use Rattle.safety.proofs.Views.{View, view, Holders, Inv, v_free, v_hold, free_keeps, hold_keeps, v_cut, cut_keeps, active_ord}
+use Rattle.safety.proofs.Looks.{signed_law, number_in, seg_of, on_of, ord_of, row_of, keep_of, seg_set, on_remove, row_queue, keep_insert}
 use Rattle.safety.proofs.Counts.{tally, left_in, queue_in, queue_left, all_left}
 use Rattle.safety.proofs.Moves.{Moved, moved_refl, moved_free, moved_hold}
-use Rattle.safety.proofs.Steps.{Setting, view_of, Plus, Positive, Tallied, Counts, even, Whole, clear, Good, Went, stayed, then_went, reach, counts_set, signs_set, changed_whole, put_whole, put_view}
+use Rattle.safety.proofs.Steps.{Setting, view_of, Plus, Positive, Tallied, even, Whole, clear, Good, Went, stayed, then_went, reach, counts_set, signs_set, changed_whole, put_whole, put_view}
 
 -- ---- cutting
 step_down : (size k tip : ℕ) → tip ≡ k * size → eqb tip 0 ≡ false → (k ≡ (k - 1) + 1) × (tip - size ≡ (k - 1) * size)

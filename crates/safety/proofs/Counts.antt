@@ -1,12 +1,12 @@
 -- How many page rows a segment has, and how many of them are marked: counted row by row, through every edit of the table.
-use Rattle.std.proofs.Common.{◌≡◌, ℕ, suc, ◌+◌, ◌<◌, ◌≤◌, Bool, true, false, cond, not, ◌&&◌, eqb, ◌⊎◌, List, [], ◌∷◌, map, length, Some, None, filter, Option, Ordering, Less, Equal, Greater, sym, refl, ap, ◌∙◌, subst, inl, inr, arith}
-use Rattle.std.proofs.lemmas.Bool.{eq-eqb, ne_eqb, eqb-true, not-true, true≢false}
+use Rattle.std.proofs.Common.{◌≡◌, ℕ, ◌+◌, ◌≤◌, Bool, true, false, cond, not, ◌&&◌, List, [], ◌∷◌, map, length, Some, None, filter, Option, Ordering, Less, Equal, Greater, sym, refl, ap, ◌∙◌, arith}
+use Rattle.std.proofs.lemmas.Bool.{eq-eqb, ne_eqb, true≢false}
 use Rattle.table.specs.Rows.{by, find_by, put_by, towards, find, insert_row}
 use Rattle.table.proofs.Laws.{find_key}
 use Rattle.table.proofs.Filters.{kept_kept}
 use Rattle.segment.specs.Rows.{page_key, by_page}
 use Rattle.segment.specs.declared.rows.PageRow.{PageRow}
-use Rattle.rules.specs.Pages.{is_in, rows_off, rows_of, page_count, left_count, all_queued, queued_row}
+use Rattle.rules.specs.Pages.{is_in, rows_off, page_count, left_count, all_queued, queued_row}
 use Rattle.safety.proofs.Plain.{mapped, here}
 use Rattle.safety.proofs.Looks.{page_law, in_eqb, row_of, mark}
 

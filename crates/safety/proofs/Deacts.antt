@@ -1,39 +1,36 @@
 -- A segment is deactivated: its blobs are removed, what it holds back is freed, it is closed and cleaned, and the share is looked at; then the fold over the ripe rows.
-use Rattle.std.proofs.Common.{◌≡◌, ℕ, zero, suc, ◌+◌, ◌-◌, ◌*◌, ◌/◌, ◌<◌, ◌≤◌, Bool, true, false, cond, not, ◌&&◌, ◌||◌, eqb, ltb, leb, ◌⊎◌, List, [], ◌∷◌, ◌++◌, length, get_or, set, ℤ, pos, negsuc, nat_abs, Some, None, Ok, Err, filter, Option, Ordering, Less, Equal, Greater, sym, refl, ap, ◌∙◌, subst, inl, inr, arith}
-use mathlib.Core.Path.{fun_ext}
-use lib.Signed.{le_z, lt_z, non_neg}
-use Rattle.std.specs.Ordering.{is_lt, is_eq, nat_cmp}
+use Rattle.std.proofs.Common.{◌≡◌, ℕ, suc, ◌+◌, ◌/◌, ◌<◌, Bool, true, false, cond, not, ◌⊎◌, List, [], ◌∷◌, length, get_or, set, ℤ, pos, negsuc, nat_abs, Some, None, Ok, Err, Option, Ordering, Less, Equal, Greater, sym, refl, ap, ◌∙◌, subst, inl, inr, arith}
+use lib.Signed.{le_z}
+use Rattle.std.specs.Ordering.{is_eq, nat_cmp}
 use Rattle.std.specs.List.{ContainsAt as Has}
-use Rattle.std.proofs.lemmas.Bool.{cases_eq, cases_lt, eq-eqb, ne_eqb, eqb-true, eqb-false, and_parts, and_from, true≢false, cond-true, ltb-true, leb-true, le-leb, not-true, not-false}
+use Rattle.std.proofs.lemmas.Bool.{cases_eq, and_from, true≢false, le-leb, not-true}
 use Rattle.std.proofs.lemmas.List.{get_or-set_same, get_or-set_other}
-use Rattle.table.specs.Order.{unsigned_lawful, signed_lawful}
-use Rattle.table.specs.Rows.{every, ascending}
+use Rattle.table.specs.Order.{unsigned_lawful}
+use Rattle.table.specs.Rows.{every}
 use Rattle.table.proofs.Filters.{has_from_kept}
-use Rattle.table.proofs.Orders.{rank_refl, every_has}
+use Rattle.table.proofs.Orders.{rank_refl}
 use Rattle.host.specs.Meaning.{Answer, asked_remove}
 use Rattle.host.specs.declared.request.Request.{Request}
 use Rattle.segment.specs.Changes.{closed}
-use Rattle.segment.specs.Rows.{ordering_key, page_key, by_page}
 use Rattle.segment.specs.declared.state.State.{State}
 use Rattle.segment.specs.declared.state.State.TheVariants as is
 use Rattle.segment.specs.declared.state.Active as active-state
 use Rattle.segment.specs.declared.state.Inactive.{Inactive}
-use Rattle.segment.specs.declared.rows.OrderingRow.{OrderingRow}
 use Rattle.segment.specs.declared.rows.BlobRow.{BlobRow}
 use Rattle.rules.specs.Books.{Books, World, world, unused, state_of, with_blobs}
-use Rattle.rules.specs.Pages.{is_in, page_count, left_count}
+use Rattle.rules.specs.Pages.{page_count, left_count}
 use Rattle.rules.specs.Cleaning.{cleaned, start_draining}
-use Rattle.rules.specs.Stabilizing.{much_is_free, free_below_tip, inactive_count, inactive_at, first_some, last_inactive, drain_found, drained_by_share, blobs_of, blobs_off, held_back_by, closed_at, number_of_lsn, removed_by, remove_blobs, release_all, opened_up, shut, shared, deactivated_by, deactivate_state, deactivated, then_deactivated, deactivate_all}
+use Rattle.rules.specs.Stabilizing.{much_is_free, free_below_tip, inactive_count, inactive_at, first_some, last_inactive, drain_found, drained_by_share, blobs_of, blobs_off, closed_at, removed_by, remove_blobs, opened_up, shut, shared, deactivated_by, deactivate_state, deactivated}
 use Rattle.rules.specs.Recount.{upd}
 use Rattle.rules.specs.Runs.{Log, recorded}
-use Rattle.safety.proofs.Plain.{Seg, Free, Active, Shut, seg_is_free, active, lsn_of, is_none, the, Count, seen, above}
-use Rattle.safety.proofs.Views.{View, view, Holders, Inv, v_close, close_keeps, active_ord}
+use Rattle.safety.proofs.Plain.{Seg, Shut, seg_is_free, active, the, Count, seen, above}
+use Rattle.safety.proofs.Views.{view, Holders, Inv, v_close, close_keeps}
 use Rattle.safety.proofs.Looks.{seg_of, on_of, ord_of, row_of, keep_of, seg_set}
 use Rattle.safety.proofs.Counts.{pages_tally, left_tally}
 use Rattle.safety.proofs.Moves.{Moved, moved_close}
-use Rattle.safety.proofs.Steps.{Setting, view_of, Plus, Positive, Tallied, Whole, granted, clear, Good, Went, stayed, then_went, reach, changed_whole}
+use Rattle.safety.proofs.Steps.{Setting, view_of, Plus, Positive, Whole, granted, clear, Good, Went, stayed, then_went, reach, changed_whole}
 use Rattle.safety.proofs.Cleans.{every_append, start_draining_good, cleaned_good}
-use Rattle.safety.proofs.Frames.{Weighs, Lighter, Alone, alone_same, cleaned_alone, start_draining_alone}
+use Rattle.safety.proofs.Frames.{Weighs, Lighter, Alone, cleaned_alone, start_draining_alone}
 use Rattle.safety.proofs.Stable.{number_the, LetGo, AllReleased, every_released}
 
 pub has_first : {X : Type 0} (x : X) (xs : List X) → Has (x ∷ xs) x

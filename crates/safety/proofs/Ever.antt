@@ -1,44 +1,25 @@
 -- Every call keeps what holds between calls, and is safe; so every run is.
-use Rattle.std.proofs.Common.{◌≡◌, ℕ, zero, suc, ◌+◌, ◌-◌, ◌*◌, ◌/◌, ◌<◌, ◌≤◌, Bool, true, false, cond, not, ◌&&◌, ◌||◌, eqb, ltb, leb, ◌⊎◌, List, [], ◌∷◌, length, get_or, ℤ, pos, negsuc, nat_abs, ◌≤ℤ◌, is_some, Some, None, Ok, Err, Option, Result, Ordering, Less, Equal, Greater, sym, refl, ap, ◌∙◌, subst, inl, inr, lt_of_mul-lt-mul_right, mul-lt-mul_of_pos_right, mul-div_cancel, arith}
-use lib.Signed.{le_z, lt_z, non_neg, le_z_yes}
-use Rattle.std.specs.Cmp.{ranks}
-use Rattle.std.specs.Ordering.{is_le, MatchOrdering}
-use Rattle.std.specs.List.{ContainsAt as Has}
-use Rattle.std.proofs.lemmas.Bool.{cases_eq, cases_lt, eq-eqb, eqb-true, and_parts, and_from, true≢false, not-true, ltb-true, lt-ltb, leb-true, or_cases}
-use Rattle.table.specs.Order.{unsigned_lawful}
-use Rattle.table.specs.Rows.{every, find, ascending, own_key}
-use Rattle.table.proofs.Ends.{first_least}
-use Rattle.table.proofs.Laws.{has_find, find_has, find_key}
-use Rattle.table.proofs.Orders.{every_has}
-use Rattle.host.specs.Meaning.{Answer, asked_cut, asked_remove}
+use Rattle.std.proofs.Common.{◌≡◌, ℕ, ◌*◌, ◌/◌, Bool, true, false, cond, not, ◌&&◌, ltb, leb, List, [], ◌∷◌, ℤ, pos, negsuc, Some, None, Ok, Err, Option, Result, refl}
+use lib.Signed.{lt_z}
+use Rattle.host.specs.Meaning.{Answer}
 use Rattle.host.specs.declared.request.Request.{Request}
-use Rattle.segment.specs.Signs.{same_z}
 use Rattle.segment.specs.declared.cache_info.CacheInfo.{CacheInfo}
 use Rattle.segment.specs.declared.rows.FaultRow.{FaultRow}
-use Rattle.segment.specs.declared.state.State.{State}
-use Rattle.segment.specs.declared.state.State.TheVariants as is
 use Rattle.rules.specs.declared.refusal.Refusal.{Refusal}
 use Rattle.rules.specs.declared.refusal.Refusal.TheVariants as no
-use Rattle.rules.specs.Books.{Books, World, world, unused, state_of, with_faults}
+use Rattle.rules.specs.Books.{Books, World, world, with_faults}
 use Rattle.rules.specs.Calls as call
-use Rattle.rules.specs.HandingOut.{unaligned, in_use, at_tip, offered, handed_out, next_by, next_at, cut_fault, popped_at, first_listed}
+use Rattle.rules.specs.HandingOut.{unaligned, in_use, at_tip, offered, handed_out, next_by, next_at, popped_at, first_listed}
 use Rattle.rules.specs.Links.{out_of_range, or_else, link_refusal}
 use Rattle.rules.specs.Recount.{Recount, told, told_stable, nothing_told}
 use Rattle.rules.specs.Recount as real
 use Rattle.rules.specs.Replacing.{replace_refusal}
-use Rattle.rules.specs.Runs.{Call, Start, Link, Replace, Next, Stabilize, Pop, Reply, Done, Gave, Popped, Refused, step, replied, reply, Log, recorded}
-use Rattle.rules.specs.Safety.{holds_after, Moment, new, outcome, moment_by, after_call, after_calls, BytesTrue, LiveBytesAreTrue, FreeListIsExact, LeastIsAnswered, Emptied, GivenUp, WithBooks, Safe, AlwaysSafe}
-use Rattle.rules.specs.Stabilizing.{is_free, stabilized_at}
-use Rattle.rules.specs.Starting.{Plan}
-use Rattle.safety.proofs.Plain.{Seg, seg_is_free, active, is_none, mem, plain, Count, counted, seen, above}
-use Rattle.safety.proofs.Views.{Holders, Inv}
-use Rattle.safety.proofs.Looks.{seg_of, on_of, row_of}
-use Rattle.safety.proofs.Steps.{Whole, even, clear}
-use Rattle.safety.proofs.Frames.{Weighs}
-use Rattle.safety.proofs.Accepts.{Sound, Accepted, or_none, link_accepted, replace_accepted}
-use Rattle.safety.proofs.Holding.{is_at, at_none, none_held, free_is}
-use Rattle.safety.proofs.Calls.{fine_in, fine_of, Kept, Quiet, Along, Cleared, accepted_kept, same_kept, alike_kept, faults_alike, pop_alike, stabilize_accepted}
-use Rattle.safety.proofs.Hands.{Offered, offer_tip, offer_first, hand_tip_kept, hand_first_kept}
+use Rattle.rules.specs.Runs.{Call, Start, Link, Replace, Next, Stabilize, Pop, Reply, Done, Gave, step, replied, Log, recorded}
+use Rattle.rules.specs.Safety.{holds_after, new}
+use Rattle.rules.specs.Stabilizing.{stabilized_at}
+use Rattle.safety.proofs.Accepts.{Accepted, or_none, link_accepted, replace_accepted}
+use Rattle.safety.proofs.Calls.{fine_of, Kept, Along, Cleared, accepted_kept, same_kept, alike_kept, faults_alike, pop_alike, stabilize_accepted}
+use Rattle.safety.proofs.Hands.{hand_tip_kept, hand_first_kept}
 
 module _ {M : Type 0} (respond : M → Request → Answer × M) (slot extent : M → ℕ) where
   -- what a call leaves

@@ -1,5 +1,5 @@
 -- What cleaning segment n leaves as it is: other segments, every Active state, the blob rows, and the live bytes of what has any.
-use Rattle.std.proofs.Common.{◌≡◌, ℕ, suc, ◌+◌, ◌-◌, ◌<◌, ◌≤◌, Bool, true, false, cond, not, ◌&&◌, eqb, ◌⊎◌, List, [], ◌∷◌, length, get_or, set, ℤ, pos, nat_abs, Some, None, Option, sym, refl, ap, ◌∙◌, subst, inl, inr, arith}
+use Rattle.std.proofs.Common.{◌≡◌, ℕ, ◌-◌, ◌<◌, ◌≤◌, Bool, true, false, cond, eqb, List, length, get_or, ℤ, pos, Some, None, Option, sym, refl, ap, ◌∙◌, subst}
 use Rattle.std.proofs.lemmas.Bool.{true≢false, ne_eqb}
 use Rattle.std.proofs.lemmas.List.{get_or-set_same, get_or-set_other}
 use Rattle.table.specs.Rows.{ascending}
@@ -15,10 +15,10 @@ use Rattle.segment.specs.declared.state.Draining.{Draining}
 use Rattle.segment.specs.declared.rows.PageRow.{PageRow}
 use Rattle.rules.specs.Books.{Books, World, world, unused, state_of}
 use Rattle.rules.specs.Freeing.{put_free, freed}
-use Rattle.rules.specs.Cleaning.{half_empty, start_draining, drain_by, drain_if_empty, holder, emptied_at, settle, free_by, free_if_left, cleaned}
+use Rattle.rules.specs.Cleaning.{half_empty, start_draining, drain_by, drain_if_empty, holder, emptied_at, settle, free_by, cleaned}
 use Rattle.rules.specs.Recount.{upd}
 use Rattle.safety.proofs.Plain.{seg_is_free, is_none, active, seen}
-use Rattle.safety.proofs.Looks.{seg_of, row_of, row_drop, row_queue}
+use Rattle.safety.proofs.Looks.{row_of, row_drop, row_queue}
 use Rattle.safety.proofs.Steps.{reach}
 use Rattle.safety.proofs.Cleans.{Trimmed, cut_trims, queue_up}
 

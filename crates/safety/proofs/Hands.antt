@@ -1,37 +1,30 @@
 -- Next on sound books: what is handed out was Free and held back by nothing, and the books stay sound.
-use Rattle.std.proofs.Common.{◌≡◌, ℕ, zero, suc, ◌+◌, ◌-◌, ◌*◌, ◌/◌, ◌<◌, ◌≤◌, Bool, true, false, cond, not, ◌&&◌, ◌||◌, eqb, ltb, leb, ◌⊎◌, List, [], ◌∷◌, length, get_or, ℤ, pos, negsuc, nat_abs, is_some, Some, None, Ok, Err, Option, Result, sym, refl, ap, ◌∙◌, subst, inl, inr, arith}
-use lib.Signed.{le_z, lt_z, non_neg}
-use Rattle.std.specs.List.{ContainsAt as Has}
-use Rattle.std.proofs.lemmas.Bool.{cases_eq, eq-eqb, ne_eqb, eqb-true, and_parts, and_from, true≢false, ltb-true}
+use Rattle.std.proofs.Common.{◌≡◌, ℕ, ◌*◌, ◌/◌, ◌<◌, ◌≤◌, Bool, true, false, cond, not, ◌&&◌, eqb, ltb, ◌⊎◌, List, [], ◌∷◌, length, ℤ, pos, is_some, Some, None, Option, sym, refl, ap, ◌∙◌, subst, inl, inr, arith}
+use lib.Signed.{non_neg}
+use Rattle.std.proofs.lemmas.Bool.{cases_eq, eq-eqb, ne_eqb, eqb-true, and_parts, true≢false, ltb-true}
 use Rattle.table.specs.Order.{unsigned_lawful}
 use Rattle.table.specs.Rows.{every, find, own_key}
 use Rattle.table.proofs.Laws.{find_first}
 use Rattle.segment.specs.Changes.{opened}
 use Rattle.segment.specs.Rows.{ordering_key}
-use Rattle.segment.specs.declared.rows.FaultRow.{FaultRow}
 use Rattle.segment.specs.declared.rows.OrderingRow.{OrderingRow}
-use Rattle.segment.specs.declared.rows.BlobRow.{BlobRow}
 use Rattle.segment.specs.declared.state.State.{State}
 use Rattle.segment.specs.declared.state.State.TheVariants as is
-use Rattle.rules.specs.declared.refusal.Refusal.{Refusal}
-use Rattle.rules.specs.declared.refusal.Refusal.TheVariants as no
-use Rattle.rules.specs.Books.{Books, World, world, unused, state_of, segment_of, with_faults}
-use Rattle.rules.specs.HandingOut.{unaligned, in_use, at_tip, offered, handed_out, next_by, next_at, cut_fault}
-use Rattle.rules.specs.Links.{out_of_range}
+use Rattle.rules.specs.Books.{Books, state_of}
+use Rattle.rules.specs.HandingOut.{in_use, handed_out}
 use Rattle.rules.specs.Recount.{Recount, upd}
 use Rattle.rules.specs.Recount as real
 use Rattle.rules.specs.Safety.{holds_after}
-use Rattle.safety.proofs.Plain.{Seg, Free, Active, seg_is_free, active, is_none, the, mapped, greatest, plain, Count, counted, seen, told_next}
+use Rattle.safety.proofs.Plain.{Seg, seg_is_free, active, is_none, mapped, greatest, Count, counted, seen, told_next}
 use Rattle.safety.proofs.Views.{Holders, Inv}
 use Rattle.safety.proofs.Looks.{seg_of, on_of, ord_of, number_in}
 use Rattle.safety.proofs.Steps.{view_of, Plus, Whole, even}
 use Rattle.safety.proofs.Frames.{Weighs}
-use Rattle.safety.proofs.Deacts.{Blobs}
-use Rattle.safety.proofs.Nexts.{seg_entered, entered_same, entered_other, entered_all, handed_as, hand_tip, hand_first}
+use Rattle.safety.proofs.Nexts.{seg_entered, entered_other, entered_all, handed_as, hand_tip, hand_first}
 use Rattle.safety.proofs.Told.{counted_next}
 use Rattle.safety.proofs.Accepts.{calm, Sound}
 use Rattle.safety.proofs.Holding.{is_at, words, next_link}
-use Rattle.safety.proofs.Calls.{Kept, same_kept, alike_kept, faults_alike}
+use Rattle.safety.proofs.Calls.{Kept}
 use Rattle.std.specs.Ordering.{nat_cmp, int_cmp}
 
 -- segment n may be handed out

@@ -1,6 +1,6 @@
 -- The words for holding back say what the holders say, after a call that hands nothing out and after one that does.
-use Rattle.std.proofs.Common.{◌≡◌, ℕ, ◌<◌, ◌≤◌, max, Bool, true, false, cond, not, ◌&&◌, eqb, ltb, leb, ◌⊎◌, List, [], ◌∷◌, ℤ, pos, negsuc, nat_abs, Some, None, Option, sym, refl, ap, ◌∙◌, subst, inl, inr, arith}
-use lib.Signed.{lt_z, non_neg}
+use Rattle.std.proofs.Common.{◌≡◌, ℕ, ◌<◌, ◌≤◌, max, Bool, true, false, cond, not, ◌&&◌, eqb, ltb, ◌⊎◌, List, [], ◌∷◌, ℤ, pos, negsuc, Some, None, Option, sym, refl, ap, ◌∙◌, inl, inr, arith}
+use lib.Signed.{non_neg}
 use Rattle.std.specs.Int.{int_max}
 use Rattle.std.proofs.lemmas.Bool.{cases_lt, eq-eqb, eqb-true, and_parts, and_from, true≢false, lt-ltb, le-ltb, both_ways}
 use Rattle.table.specs.Rows.{every}
@@ -11,11 +11,11 @@ use Rattle.rules.specs.Books.{Books, state_of}
 use Rattle.rules.specs.Recount.{upd, largest}
 use Rattle.rules.specs.Safety.{is_active_at, is_any_active, holds_after}
 use Rattle.rules.specs.Stabilizing.{is_free}
-use Rattle.safety.proofs.Plain.{Seg, Free, Active, seg_is_free, active, is_none, the, greatest, plain, seen}
+use Rattle.safety.proofs.Plain.{Seg, Active, seg_is_free, active, is_none, the, greatest, plain, seen}
 use Rattle.safety.proofs.Views.{Holders}
 use Rattle.safety.proofs.Looks.{seg_of}
 use Rattle.safety.proofs.Moves.{Moved}
-use Rattle.safety.proofs.Steps.{Plus, Positive}
+use Rattle.safety.proofs.Steps.{Positive}
 
 abbrev pub is_at : Option ℕ → ℕ → Bool
 is_at None l = false

@@ -1,12 +1,11 @@
 -- Start: the Free segments are listed one after the other, with the cuts and fills that follow.
-use Rattle.std.proofs.Common.{◌≡◌, ℕ, zero, suc, ◌+◌, ◌-◌, ◌*◌, ◌/◌, ◌<◌, ◌≤◌, Bool, true, false, cond, not, ◌&&◌, ◌||◌, eqb, ltb, leb, ◌⊎◌, List, [], ◌∷◌, ◌++◌, length, get_or, ℤ, pos, negsuc, nat_abs, Some, None, Ok, Err, Option, Result, sym, refl, ap, ◌∙◌, subst, inl, inr, arith}
+use Rattle.std.proofs.Common.{◌≡◌, ℕ, suc, ◌+◌, ◌/◌, ◌<◌, ◌≤◌, Bool, true, false, cond, ◌&&◌, ltb, leb, ◌⊎◌, List, [], ◌∷◌, length, get_or, ℤ, None, Ok, Err, sym, refl, ap, ◌∙◌, subst, inl, inr, arith}
 use mathlib.Core.Path.{fun_ext}
-use Rattle.std.proofs.lemmas.Bool.{cases_eq, cases_lt, eq-eqb, ne_eqb, and_parts, and_from, true≢false, lt-ltb, le-ltb, le-leb, leb-true, ltb-true}
+use Rattle.std.proofs.lemmas.Bool.{cases_eq, cases_lt, eq-eqb, ne_eqb, and_from, lt-ltb, le-ltb, le-leb, leb-true}
 use Rattle.table.specs.Rows.{every}
 use Rattle.table.proofs.Laws.{every_mono}
 use Rattle.host.specs.Meaning.{Answer, asked_fill}
 use Rattle.host.specs.declared.request.Request.{Request}
-use Rattle.segment.specs.declared.rows.BlobRow.{BlobRow}
 use Rattle.segment.specs.declared.state.State.{State}
 use Rattle.segment.specs.declared.state.State.TheVariants as is
 use Rattle.segment.specs.declared.state.Free as free-record
@@ -14,12 +13,11 @@ use Rattle.rules.specs.Books.{Books, World, world, unused, state_of, offset_of}
 use Rattle.rules.specs.Freeing.{put_free, unordered, without_lsn, freed}
 use Rattle.rules.specs.Recount.{upd}
 use Rattle.rules.specs.Runs.{Log, recorded}
-use Rattle.rules.specs.Stabilizing.{is_free}
 use Rattle.rules.specs.Starting.{fill_by, filled, free_state, then_free, free_all}
-use Rattle.safety.proofs.Plain.{Seg, seg_is_free, Count, seen, above}
+use Rattle.safety.proofs.Plain.{seg_is_free, Count, seen, above}
 use Rattle.safety.proofs.Views.{View, view, Holders, Inv, v_list, list_keeps}
-use Rattle.safety.proofs.Looks.{seg_of, on_of, ord_of, row_of, keep_of, on_insert, row_drop}
-use Rattle.safety.proofs.Steps.{Setting, view_of, Whole, clear, Good, put_whole}
+use Rattle.safety.proofs.Looks.{seg_of, ord_of, row_of, keep_of, on_insert, row_drop}
+use Rattle.safety.proofs.Steps.{Setting, view_of, clear, Good, put_whole}
 use Rattle.safety.proofs.Cleans.{Trimmed, cut_trims, cut_tail_good, every_append, clear_lower, upd_id}
 
 abbrev pub nobody : Holders

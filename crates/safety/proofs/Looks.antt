@@ -1,9 +1,9 @@
 -- The look-ups of the books as functions of plain numbers, and each edit of a table as one equation between such functions.
-use Rattle.std.proofs.Common.{◌≡◌, ℕ, zero, suc, ◌+◌, ◌*◌, ◌/◌, ◌<◌, ◌≤◌, Bool, true, false, cond, not, ◌&&◌, eqb, ltb, leb, ◌⊎◌, List, [], ◌∷◌, ◌++◌, map, length, get_or, set, ℤ, pos, negsuc, nat_abs, is_some, Some, None, filter, Option, Ordering, Less, Equal, Greater, sym, refl, ap, ◌∙◌, subst, inl, inr, mul-div_cancel, arith}
+use Rattle.std.proofs.Common.{◌≡◌, ℕ, ◌*◌, ◌/◌, ◌<◌, ◌≤◌, Bool, true, false, cond, not, ◌&&◌, eqb, ◌⊎◌, List, [], ◌∷◌, ◌++◌, map, length, get_or, set, ℤ, pos, nat_abs, is_some, Some, None, Option, Ordering, Less, Equal, Greater, sym, refl, ap, ◌∙◌, inl, inr, arith}
 use mathlib.Core.Path.{fun_ext}
 use native.Mathlib.Nat.{eq_of_mul-eq-mul_right}
 use Rattle.std.specs.Ordering.{is_lt, is_eq, nat_cmp, int_cmp}
-use Rattle.std.proofs.lemmas.Bool.{cases_eq, cases_lt, eq-eqb, ne_eqb, eqb-true, eqb-false, and_parts, and_from}
+use Rattle.std.proofs.lemmas.Bool.{cases_eq, cases_lt, eq-eqb, ne_eqb, and_parts}
 use Rattle.std.proofs.lemmas.List.{get_or-set_same, get_or-set_other, get_or_push, get_or_append_left, get_or_past, length_push}
 use Rattle.table.specs.Order.{Lawful, unsigned_lawful, signed_lawful, lexical_lawful}
 use Rattle.table.specs.Rows.{by, every, find, insert_row, remove_row, ascending, own_key}
@@ -18,7 +18,7 @@ use Rattle.segment.specs.declared.rows.FreeableRow.{FreeableRow}
 use Rattle.rules.specs.Books.{unused}
 use Rattle.rules.specs.Pages.{rows_off, is_in, all_queued, queued_row}
 use Rattle.rules.specs.Recount.{upd}
-use Rattle.safety.proofs.Plain.{Seg, is_none, mapped, upd2, seen}
+use Rattle.safety.proofs.Plain.{Seg, mapped, upd2, seen}
 
 pub page_law : Lawful by_page
 page_law = lexical_lawful unsigned_lawful unsigned_lawful

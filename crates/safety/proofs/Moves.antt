@@ -1,9 +1,8 @@
 -- What one step may do to states and holders: a reflexive and transitive relation, so that folds compose.
-use Rattle.std.proofs.Common.{◌≡◌, ℕ, suc, ◌+◌, ◌<◌, ◌≤◌, max, Bool, true, false, cond, not, ◌&&◌, eqb, ltb, leb, ◌⊎◌, List, [], ◌∷◌, Some, None, Option, sym, refl, ap, ◌∙◌, subst, inl, inr, arith}
-use mathlib.Core.Path.{fun_ext}
-use Rattle.std.proofs.lemmas.Bool.{cases_Bool, cases_eq, eqb-true, eq-eqb, ne_eqb}
+use Rattle.std.proofs.Common.{◌≡◌, ℕ, Bool, true, false, List, Some, None, Option, sym, refl, ap, ◌∙◌, subst, arith}
+use Rattle.std.proofs.lemmas.Bool.{eq-eqb}
 use Rattle.rules.specs.Recount.{upd}
-use Rattle.safety.proofs.Plain.{Seg, Free, Active, Shut, seg_is_free, active, lsn_of, latest, is_none, the, here, upd2, greatest, mem}
+use Rattle.safety.proofs.Plain.{Seg, Free, seg_is_free, active, greatest}
 use Rattle.safety.proofs.Views.{Holders}
 
 pub record Moved (noted : ℕ → List ℕ) (s : ℕ → Seg) (h : Holders) (z : ℕ → Seg) (g : Holders) : Type 0 where

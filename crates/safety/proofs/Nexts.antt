@@ -1,8 +1,8 @@
 -- Next keeps the invariant: the first free offset, or the tip, is handed out.
-use Rattle.std.proofs.Common.{◌≡◌, ℕ, zero, suc, ◌+◌, ◌-◌, ◌*◌, ◌/◌, ◌<◌, ◌≤◌, Bool, true, false, cond, not, ◌&&◌, eqb, ltb, leb, ◌⊎◌, List, [], ◌∷◌, ◌++◌, length, get_or, set, ℤ, pos, negsuc, nat_abs, is_some, Some, None, Option, sym, refl, ap, ◌∙◌, subst, inl, inr, suc-mul, mul-div_cancel, arith}
+use Rattle.std.proofs.Common.{◌≡◌, ℕ, suc, ◌+◌, ◌*◌, ◌/◌, ◌<◌, ◌≤◌, Bool, true, false, cond, not, ◌&&◌, eqb, ltb, ◌⊎◌, List, [], ◌∷◌, ◌++◌, length, get_or, set, ℤ, pos, is_some, None, sym, refl, ap, ◌∙◌, subst, inl, inr, suc-mul, mul-div_cancel, arith}
 use mathlib.Core.Path.{fun_ext}
 use Rattle.std.specs.Ordering.{is_lt, nat_cmp, int_cmp}
-use Rattle.std.proofs.lemmas.Bool.{cases_eq, cases_lt, eq-eqb, ne_eqb, eqb-true, and_parts, and_from, true≢false, ltb-true, ltb-false, lt-ltb}
+use Rattle.std.proofs.lemmas.Bool.{cases_eq, cases_lt, eqb-true, and_parts, ltb-true, ltb-false}
 use Rattle.std.proofs.lemmas.List.{get_or-set_same, get_or-set_other, get_or_push, get_or_append_left, get_or_past, length-set, length_push}
 use Rattle.table.specs.Order.{unsigned_lawful, signed_lawful}
 use Rattle.table.specs.Rows.{every, find, insert_row, ascending, own_key}
@@ -11,17 +11,15 @@ use Rattle.segment.specs.Changes.{opened}
 use Rattle.segment.specs.Rows.{ordering_key}
 use Rattle.segment.specs.declared.state.State.{State}
 use Rattle.segment.specs.declared.state.State.TheVariants as is
-use Rattle.segment.specs.declared.rows.OrderingRow.{OrderingRow}
-use Rattle.segment.specs.declared.rows.PageRow.{PageRow}
-use Rattle.rules.specs.Books.{Books, books, unused, state_of, segment_of}
-use Rattle.rules.specs.HandingOut.{entered, rest_of, risen, handed_out}
+use Rattle.rules.specs.Books.{Books, books, unused, segment_of}
+use Rattle.rules.specs.HandingOut.{entered, rest_of, risen}
 use Rattle.rules.specs.Pages.{is_in}
 use Rattle.rules.specs.Recount.{upd}
-use Rattle.safety.proofs.Plain.{Seg, Free, Active, seg_is_free, is_none, Count, told_next, seen, above}
-use Rattle.safety.proofs.Views.{View, view, Holders, Inv, v_next, next_listed, next_tip}
+use Rattle.safety.proofs.Plain.{seg_is_free, is_none, Count, told_next, seen, above}
+use Rattle.safety.proofs.Views.{view, Holders, Inv, v_next, next_listed, next_tip}
 use Rattle.safety.proofs.Looks.{seg_of, on_of, ord_of, row_of, keep_of, seg_set, seg_push, ord_insert, on_rest}
 use Rattle.safety.proofs.Counts.{tally, left_in}
-use Rattle.safety.proofs.Steps.{Setting, view_of, Positive, Tallied, Counts, even, Whole}
+use Rattle.safety.proofs.Steps.{Setting, view_of, Positive, Tallied, even, Whole}
 
 -- ---- a segment is entered, in its place or at the end
 module _ (segs : List State) (n : ℕ) (z : State) (low : n ≤ length segs) where

@@ -1,8 +1,7 @@
 -- Start: the ordering has exactly the Active segments, so the recovered books keep the invariant with every Free segment still to be listed.
-use Rattle.std.proofs.Common.{◌≡◌, ℕ, zero, suc, ◌+◌, ◌-◌, ◌*◌, ◌/◌, ◌<◌, ◌≤◌, Bool, true, false, cond, not, ◌&&◌, ◌||◌, eqb, ltb, leb, ◌⊎◌, List, [], ◌∷◌, length, get_or, ℤ, pos, negsuc, nat_abs, is_some, Some, None, Ok, Err, Option, Result, sym, refl, ap, ◌∙◌, subst, inl, inr, mul-div_cancel, arith}
-use mathlib.Core.Path.{fun_ext}
+use Rattle.std.proofs.Common.{◌≡◌, ℕ, zero, suc, ◌+◌, ◌*◌, ◌/◌, ◌<◌, Bool, true, false, cond, not, ◌&&◌, ltb, ◌⊎◌, List, [], ◌∷◌, length, get_or, ℤ, pos, negsuc, nat_abs, is_some, Some, None, Ok, Err, Option, Result, sym, refl, ap, ◌∙◌, subst, inl, inr, mul-div_cancel, arith}
 use lib.Signed.{non_neg, le_z}
-use Rattle.std.proofs.lemmas.Bool.{cases_eq, cases_lt, eq-eqb, ne_eqb, eqb-true, and_parts, and_from, true≢false, ltb-true}
+use Rattle.std.proofs.lemmas.Bool.{cases_eq, eq-eqb, ne_eqb, and_parts, true≢false, ltb-true}
 use Rattle.std.proofs.lemmas.List.{get_or_past}
 use Rattle.table.specs.Order.{signed_lawful}
 use Rattle.table.specs.Rows.{every, find, insert_row, ascending, own_key}
@@ -10,18 +9,16 @@ use Rattle.table.proofs.Laws.{ascending_insert}
 use Rattle.segment.specs.Rows.{ordering_key, freeable_key, by_signed}
 use Rattle.segment.specs.declared.rows.OrderingRow.{OrderingRow}
 use Rattle.segment.specs.declared.rows.FreeableRow.{FreeableRow}
-use Rattle.segment.specs.declared.rows.BlobRow.{BlobRow}
 use Rattle.segment.specs.declared.state.State.{State}
 use Rattle.segment.specs.declared.state.State.TheVariants as is
-use Rattle.segment.specs.declared.state.Active as active-state
 use Rattle.rules.specs.declared.refusal.Refusal.{Refusal}
 use Rattle.rules.specs.declared.refusal.Refusal.TheVariants as no
 use Rattle.rules.specs.Books.{Books, unused, state_of, with_ordering}
 use Rattle.rules.specs.Recount.{Recount, upd}
 use Rattle.rules.specs.Starting.{order_state, order_then, order_all}
 use Rattle.safety.proofs.Plain.{Seg, seg_is_free, active, lsn_of, latest, is_none, the, here, mapped, greatest, mem, plain, counted, seen, above}
-use Rattle.safety.proofs.Views.{Holders, Inv}
-use Rattle.safety.proofs.Looks.{number_in, seg_of, on_of, ord_of, row_of, keep_of, ord_insert}
+use Rattle.safety.proofs.Views.{Inv}
+use Rattle.safety.proofs.Looks.{number_in, seg_of, on_of, ord_of, keep_of, ord_insert}
 use Rattle.safety.proofs.Steps.{Setting, view_of, Plus, Positive, Tallied, Whole}
 use Rattle.safety.proofs.Recovers.{Fresh, Raw}
 use Rattle.std.specs.Ordering.{nat_cmp, int_cmp}

@@ -1,29 +1,23 @@
 -- Start, up to the ordering: the books recovered from a snapshot fit the recount that is told of it.
-use Rattle.std.proofs.Common.{◌≡◌, ℕ, zero, suc, ◌+◌, ◌-◌, ◌*◌, ◌/◌, ◌^◌, ◌<◌, ◌≤◌, Bool, true, false, cond, not, ◌&&◌, ◌||◌, eqb, ltb, leb, ◌⊎◌, List, [], ◌∷◌, length, get_or, take, drop, set, replicate, ℤ, pos, negsuc, ◌+ℤ◌, nat_abs, Some, None, Ok, Err, Option, Result, unwrap_or, sym, refl, ap, ◌∙◌, subst, inl, inr, arith}
-use mathlib.Core.Path.{fun_ext}
-use lib.Signed.{non_neg}
-use Rattle.std.proofs.lemmas.Bool.{cases_eq, cases_lt, eq-eqb, ne_eqb, eqb-true, and_parts, and_from, true≢false, not-true, leb-false, leb-true}
-use Rattle.std.proofs.lemmas.List.{get_or-set_same, get_or-set_other, length-set, length-replicate}
-use Rattle.table.specs.Rows.{every, ascending, find, insert_row}
+use Rattle.std.proofs.Common.{◌≡◌, ℕ, suc, ◌+◌, ◌-◌, ◌*◌, ◌/◌, ◌<◌, ◌≤◌, Bool, true, false, cond, not, eqb, leb, ◌⊎◌, List, [], ◌∷◌, length, get_or, take, drop, set, ℤ, pos, negsuc, ◌+ℤ◌, Some, None, Ok, Err, Option, Result, sym, refl, ap, ◌∙◌, subst, inl, inr, arith}
+use Rattle.std.proofs.lemmas.Bool.{cases_eq, eq-eqb, ne_eqb, true≢false, leb-false}
+use Rattle.std.proofs.lemmas.List.{get_or-set_same, get_or-set_other, length-set}
+use Rattle.table.specs.Rows.{ascending}
 use Rattle.table.proofs.Laws.{ascending_insert}
 use Rattle.segment.specs.Bases.{base_of}
-use Rattle.segment.specs.Changes.{opened}
 use Rattle.segment.specs.Pointers.{lid_of}
 use Rattle.segment.specs.Rows.{page_key, by_page}
-use Rattle.segment.specs.Signs.{same_z}
-use Rattle.segment.specs.Updates.{linked}
 use Rattle.segment.specs.declared.rows.PageRow.{PageRow}
 use Rattle.segment.specs.declared.snapshot.PageEntry.{PageEntry}
 use Rattle.segment.specs.declared.snapshot.SnapshotRow.{SnapshotRow}
 use Rattle.segment.specs.declared.state.State.{State}
 use Rattle.segment.specs.declared.state.State.TheVariants as is
-use Rattle.segment.specs.declared.state.Active as active-state
 use Rattle.rules.specs.declared.refusal.Refusal.{Refusal}
-use Rattle.rules.specs.Books.{Books, unused, state_of, segment_of, with_segments}
+use Rattle.rules.specs.Books.{Books, unused, state_of, with_segments}
 use Rattle.rules.specs.Links.{linked_state, linked_at}
 use Rattle.rules.specs.Pages.{page_row, is_left, written, new_row}
-use Rattle.rules.specs.Recount.{Recount, recount, upd, told_lsn, told_bytes, told_row, told_rows, told_pages, told_active, told_size, told_start}
-use Rattle.rules.specs.Starting.{Plan, blank, with_active, opened_at, has_base, row_size, row_segment, opened_for, placed_refusal, row_refusal, recovered_by, recover_row, and_then, recover_rows, recover_pages}
+use Rattle.rules.specs.Recount.{Recount, upd, told_lsn, told_bytes, told_row, told_rows, told_pages}
+use Rattle.rules.specs.Starting.{opened_at, has_base, row_size, row_segment, opened_for, placed_refusal, row_refusal, recovered_by, recover_row, and_then, recover_rows, recover_pages}
 use Rattle.safety.proofs.Plain.{seg_is_free, here, mapped, upd2, seen}
 use Rattle.safety.proofs.Looks.{page_law, seg_of, row_of, mark}
 use Rattle.safety.proofs.Steps.{Plus}

@@ -1,19 +1,18 @@
 -- Every run over a lawful host is safe.
-use Rattle.std.proofs.Common.{◌≡◌, ℕ, Bool, true, false, cond, not, ◌&&◌, ◌⊎◌, List, [], ◌∷◌, ◌++◌, ℤ, pos, Some, None, Ok, Err, Option, Result, sym, refl, ap, ◌∙◌, subst, inl, inr, arith}
+use Rattle.std.proofs.Common.{◌≡◌, ℕ, Bool, true, false, ◌&&◌, ◌⊎◌, List, [], ◌∷◌, ◌++◌, ℤ, pos, Some, None, Ok, Err, Option, sym, refl, ap, ◌∙◌, subst, inl, inr}
 use Rattle.std.specs.List.{ContainsAt as Has}
 use Rattle.std.proofs.ByRecursion.{has_append_left, has_append_right}
 use Rattle.std.proofs.lemmas.Bool.{cases_eq, eqb-true, ne_eqb, true≢false, both_ways}
-use Rattle.host.specs.Meaning.{Answer, asked_cut, asked_remove, sight, Sight, Outcome, Obeys}
+use Rattle.host.specs.Meaning.{Answer, asked_remove, sight, Outcome, Obeys}
 use Rattle.host.specs.declared.request.Request.{Request}
 use Rattle.host.specs.declared.request.Request.TheVariants as asked
-use Rattle.host.specs.declared.request.HostFault.{HostFault}
 use Rattle.segment.specs.Signs.{same_z}
 use Rattle.rules.specs.Books.{Books}
-use Rattle.rules.specs.Recount.{Recount, told, nothing_told}
-use Rattle.rules.specs.Runs.{Call, Start, Link, Replace, Next, Stabilize, Pop, Reply, Gave, Log, recorded}
-use Rattle.rules.specs.Safety.{holds_after, Moment, new, outcome, moment_by, after_call, after_calls, GivenUp, Safe, AlwaysSafe}
+use Rattle.rules.specs.Recount.{Recount}
+use Rattle.rules.specs.Runs.{Call, Start, Link, Replace, Next, Stabilize, Pop, Log, recorded}
+use Rattle.rules.specs.Safety.{Moment, new, outcome, after_call, after_calls, Safe, AlwaysSafe}
 use Rattle.safety.proofs.Accepts.{same_true}
-use Rattle.safety.proofs.Calls.{Kept, Quiet, Along, Cleared}
+use Rattle.safety.proofs.Calls.{Quiet, Along}
 use Rattle.safety.proofs.Deacts.{has_first}
 use Rattle.safety.proofs.Ever.{Called, ran, some_called}
 use Rattle.safety.proofs.Safes.{bytes_true, free_exact, cut_safe, removed_safe, least_answered, handed_safe}

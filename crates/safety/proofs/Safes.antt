@@ -1,6 +1,6 @@
 -- From what holds between calls to the parts of what is promised of a call.
-use Rattle.std.proofs.Common.{◌≡◌, ℕ, zero, suc, ◌+◌, ◌-◌, ◌*◌, ◌/◌, ◌<◌, ◌≤◌, Bool, true, false, cond, not, ◌&&◌, ◌||◌, T, eqb, ltb, leb, ◌⊎◌, List, [], ◌∷◌, length, get_or, ℤ, pos, negsuc, nat_abs, ◌≤ℤ◌, is_some, Some, None, Ok, Err, Option, Result, Ordering, Less, Equal, Greater, sym, refl, ap, ◌∙◌, subst, inl, inr, lt_of_mul-lt-mul_right, mul-lt-mul_of_pos_right, mul-div_cancel, arith}
-use lib.Signed.{le_z, lt_z, non_neg, le_z_yes}
+use Rattle.std.proofs.Common.{◌≡◌, ℕ, zero, suc, ◌*◌, ◌/◌, ◌<◌, ◌≤◌, Bool, true, false, cond, ◌&&◌, T, ltb, leb, ◌⊎◌, List, [], ◌∷◌, ℤ, pos, negsuc, nat_abs, ◌≤ℤ◌, is_some, Some, None, Ok, Err, Option, Result, Ordering, Less, Equal, Greater, sym, refl, ap, ◌∙◌, subst, inl, inr, lt_of_mul-lt-mul_right, mul-lt-mul_of_pos_right, arith}
+use lib.Signed.{le_z, non_neg, le_z_yes}
 use Rattle.std.specs.Cmp.{ranks}
 use Rattle.std.specs.Ordering.{is_le, MatchOrdering, nat_cmp}
 use Rattle.std.specs.List.{ContainsAt as Has}
@@ -13,34 +13,28 @@ use Rattle.table.proofs.Orders.{every_has}
 use Rattle.host.specs.Meaning.{Answer, asked_cut, asked_remove}
 use Rattle.host.specs.declared.request.Request.{Request}
 use Rattle.segment.specs.Signs.{same_z}
-use Rattle.segment.specs.declared.cache_info.CacheInfo.{CacheInfo}
 use Rattle.segment.specs.declared.rows.FaultRow.{FaultRow}
 use Rattle.segment.specs.declared.state.State.{State}
 use Rattle.segment.specs.declared.state.State.TheVariants as is
 use Rattle.rules.specs.declared.refusal.Refusal.{Refusal}
 use Rattle.rules.specs.declared.refusal.Refusal.TheVariants as no
-use Rattle.rules.specs.Books.{Books, World, world, unused, state_of, with_faults}
+use Rattle.rules.specs.Books.{Books, state_of}
 use Rattle.rules.specs.Calls as call
-use Rattle.rules.specs.HandingOut.{unaligned, in_use, at_tip, offered, handed_out, next_by, next_at, cut_fault, popped_at, first_listed}
-use Rattle.rules.specs.Links.{out_of_range, or_else, link_refusal}
-use Rattle.rules.specs.Recount.{Recount, told, told_stable, nothing_told}
-use Rattle.rules.specs.Recount as real
-use Rattle.rules.specs.Replacing.{replace_refusal}
-use Rattle.rules.specs.Runs.{Call, Start, Link, Replace, Next, Stabilize, Pop, Reply, Done, Gave, Popped, Refused, step, replied, reply, Log, recorded}
-use Rattle.rules.specs.Safety.{holds_after, Moment, new, outcome, moment_by, after_call, after_calls, BytesTrue, LiveBytesAreTrue, FreeListIsExact, LeastIsAnswered, Emptied, GivenUp, WithBooks, Safe, AlwaysSafe}
-use Rattle.rules.specs.Stabilizing.{is_free, stabilized_at}
-use Rattle.rules.specs.Starting.{Plan}
-use Rattle.safety.proofs.Plain.{Seg, seg_is_free, active, is_none, mem, plain, Count, counted, seen, above}
-use Rattle.safety.proofs.Views.{Holders, Inv}
-use Rattle.safety.proofs.Looks.{seg_of, on_of, row_of}
+use Rattle.rules.specs.HandingOut.{unaligned, in_use, at_tip, offered, handed_out, next_by, next_at, cut_fault}
+use Rattle.rules.specs.Links.{out_of_range}
+use Rattle.rules.specs.Recount.{Recount}
+use Rattle.rules.specs.Runs.{Next, Gave, Refused, replied, reply, Log, recorded}
+use Rattle.rules.specs.Safety.{BytesTrue, LiveBytesAreTrue, FreeListIsExact, LeastIsAnswered, Emptied, GivenUp, WithBooks}
+use Rattle.safety.proofs.Plain.{seg_is_free, is_none, mem, plain, above}
+use Rattle.safety.proofs.Views.{Holders}
+use Rattle.safety.proofs.Looks.{seg_of, on_of}
 use Rattle.safety.proofs.Steps.{Whole, even, clear}
 use Rattle.safety.proofs.Frames.{Weighs}
 use Rattle.safety.proofs.Accepts.{Sound, Accepted, or_none, link_accepted, replace_accepted}
-use Rattle.safety.proofs.Holding.{is_at, at_none, none_held, free_is}
-use Rattle.safety.proofs.Calls.{fine_in, fine_of, Kept, Quiet, Along, Cleared, accepted_kept, same_kept, alike_kept, faults_alike, pop_alike, stabilize_accepted}
-use Rattle.safety.proofs.Hands.{Offered, offer_tip, offer_first, hand_tip_kept, hand_first_kept}
-use Rattle.host.specs.declared.request.Request.TheVariants as asked
-use Rattle.safety.proofs.Ever.{Called, ran, some_called}
+use Rattle.safety.proofs.Holding.{at_none, none_held, free_is}
+use Rattle.safety.proofs.Calls.{fine_in, fine_of, Kept, Quiet, Along, Cleared}
+use Rattle.safety.proofs.Hands.{Offered, offer_tip, offer_first}
+use Rattle.safety.proofs.Ever.{ran}
 
 -- ---- live bytes
 weighs_true : (live : ℤ) (s : State) → Weighs live s → BytesTrue live s

@@ -1,9 +1,9 @@
 -- Stabilize as a whole: L is stored, then every Active segment in its range is deactivated, until the host refuses.
-use Rattle.std.proofs.Common.{◌≡◌, ℕ, zero, suc, ◌+◌, ◌-◌, ◌*◌, ◌/◌, ◌<◌, ◌≤◌, Bool, true, false, cond, not, ◌&&◌, ◌||◌, eqb, ltb, leb, ◌⊎◌, List, [], ◌∷◌, length, get_or, ℤ, pos, negsuc, nat_abs, Some, None, Ok, Err, filter, Option, Ordering, sym, refl, ap, ◌∙◌, subst, inl, inr, arith}
-use lib.Signed.{le_z, lt_z, non_neg}
+use Rattle.std.proofs.Common.{◌≡◌, ℕ, ◌<◌, ◌≤◌, Bool, true, false, cond, not, ◌&&◌, ◌||◌, ltb, leb, ◌⊎◌, List, [], ◌∷◌, ℤ, pos, negsuc, nat_abs, Some, None, Ok, Err, Option, sym, refl, ap, ◌∙◌, subst, inl, inr, arith}
+use lib.Signed.{le_z, lt_z}
 use Rattle.std.specs.Ordering.{is_lt, int_cmp}
 use Rattle.std.specs.List.{ContainsAt as Has}
-use Rattle.std.proofs.lemmas.Bool.{cases_eq, cases_lt, and_parts, and_from, true≢false, ltb-true, ltb-false, leb-true, leb-false, lt-ltb, le-ltb, le-leb, not-true, or_cases, or_parts, or_from}
+use Rattle.std.proofs.lemmas.Bool.{cases_lt, and_parts, true≢false, ltb-true, leb-true, lt-ltb, le-ltb, le-leb}
 use Rattle.table.specs.Order.{signed_lawful}
 use Rattle.table.specs.Rows.{every, find, ascending}
 use Rattle.table.proofs.Laws.{has_find}
@@ -16,18 +16,18 @@ use Rattle.segment.specs.declared.state.State.{State}
 use Rattle.segment.specs.declared.state.State.TheVariants as is
 use Rattle.segment.specs.declared.state.Active as active-state
 use Rattle.segment.specs.declared.rows.OrderingRow.{OrderingRow}
-use Rattle.rules.specs.Books.{Books, World, world, unused, state_of, with_stabilized}
-use Rattle.rules.specs.Stabilizing.{deactivated, then_deactivated, deactivate_all, level, is_settled, ripe, stabilized_to, stabilized_at}
+use Rattle.rules.specs.Books.{Books, World, world, state_of, with_stabilized}
+use Rattle.rules.specs.Stabilizing.{deactivated, then_deactivated, deactivate_all, level, ripe, stabilized_to, stabilized_at}
 use Rattle.rules.specs.Recount.{Recount, told_stable}
 use Rattle.rules.specs.Runs.{Log, recorded}
-use Rattle.safety.proofs.Plain.{Seg, Free, Active, Shut, seg_is_free, active, lsn_of, is_none, the, mapped, Count, told_stored, seen, above, counted}
-use Rattle.safety.proofs.Views.{View, view, Holders, Inv, store_keeps, active_ord}
+use Rattle.safety.proofs.Plain.{Seg, active, is_none, the, mapped, Count, told_stored, seen, above, counted}
+use Rattle.safety.proofs.Views.{Holders, store_keeps, active_ord}
 use Rattle.safety.proofs.Looks.{number_in, seg_of, ord_of}
 use Rattle.safety.proofs.Moves.{Moved, moved_refl}
 use Rattle.safety.proofs.Steps.{Setting, view_of, Whole, Good, Went, stayed, then_went}
 use Rattle.safety.proofs.Cleans.{active_is}
-use Rattle.safety.proofs.Frames.{Weighs, Lighter}
-use Rattle.safety.proofs.Deacts.{has_first, has_later, Blobs, Spared, Deacted, deact_good}
+use Rattle.safety.proofs.Frames.{Lighter}
+use Rattle.safety.proofs.Deacts.{has_first, has_later, Blobs, Deacted, deact_good}
 
 -- an Active segment has this LSN, which is stable
 abbrev pub Ripe : ℤ → Books → OrderingRow → Type 0

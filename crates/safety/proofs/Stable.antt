@@ -1,43 +1,30 @@
 -- Stabilize goes well: what a segment holds back is freed row by row, then it is closed, cleaned and the share is looked at; segment after segment.
-use Rattle.std.proofs.Common.{◌≡◌, ℕ, zero, suc, ◌+◌, ◌-◌, ◌*◌, ◌/◌, ◌<◌, ◌≤◌, Bool, true, false, cond, not, ◌&&◌, ◌||◌, eqb, ltb, leb, ◌⊎◌, List, [], ◌∷◌, ◌++◌, length, get_or, set, ℤ, pos, negsuc, nat_abs, is_some, Some, None, Ok, Err, filter, Option, Ordering, Less, Equal, Greater, sym, refl, ap, ◌∙◌, subst, inl, inr, arith}
-use mathlib.Core.Path.{fun_ext}
-use lib.Signed.{le_z, lt_z, non_neg}
+use Rattle.std.proofs.Common.{◌≡◌, ℕ, ◌/◌, ◌<◌, Bool, true, false, cond, eqb, ◌⊎◌, List, [], ◌∷◌, length, ℤ, pos, negsuc, nat_abs, is_some, Some, None, filter, Option, Ordering, Less, Equal, Greater, sym, refl, ap, ◌∙◌, subst, inl, inr, arith}
+use lib.Signed.{non_neg}
 use Rattle.std.specs.Ordering.{is_lt, is_eq, nat_cmp, int_cmp}
-use Rattle.std.specs.List.{ContainsAt as Has}
-use Rattle.std.proofs.lemmas.Bool.{cases_eq, cases_lt, eq-eqb, ne_eqb, eqb-true, eqb-false, and_parts, and_from, true≢false, cond-true, ltb-true, leb-true, not-true}
-use Rattle.std.proofs.lemmas.List.{get_or-set_same, get_or-set_other}
-use Rattle.table.specs.Order.{Lawful, unsigned_lawful, signed_lawful}
-use Rattle.table.specs.Rows.{every, find, insert_row, remove_row, ascending, own_key, towards}
-use Rattle.table.proofs.Laws.{ascending_remove, every_cut, find_tail, find_key, find_first, find_above}
+use Rattle.std.proofs.lemmas.Bool.{cases_eq, eq-eqb, ne_eqb, and_parts, and_from, true≢false, cond-true}
+use Rattle.table.specs.Order.{unsigned_lawful}
+use Rattle.table.specs.Rows.{every, find, remove_row, ascending, towards}
+use Rattle.table.proofs.Laws.{ascending_remove, every_cut, find_first, find_above}
 use Rattle.table.proofs.Filters.{find_kept, ascending_kept, every_kept}
-use Rattle.table.proofs.Orders.{rank_refl, every_has}
-use Rattle.host.specs.Meaning.{Answer, asked_remove}
+use Rattle.table.proofs.Orders.{rank_refl}
+use Rattle.host.specs.Meaning.{Answer}
 use Rattle.host.specs.declared.request.Request.{Request}
-use Rattle.segment.specs.Changes.{closed}
-use Rattle.segment.specs.Rows.{ordering_key, page_key, by_page, freeable_key, by_signed}
+use Rattle.segment.specs.Rows.{ordering_key, freeable_key, by_signed}
 use Rattle.segment.specs.declared.state.State.{State}
 use Rattle.segment.specs.declared.state.State.TheVariants as is
-use Rattle.segment.specs.declared.state.Active as active-state
-use Rattle.segment.specs.declared.state.Inactive.{Inactive}
 use Rattle.segment.specs.declared.rows.OrderingRow.{OrderingRow}
-use Rattle.segment.specs.declared.rows.PageRow.{PageRow}
-use Rattle.segment.specs.declared.rows.BlobRow.{BlobRow}
 use Rattle.segment.specs.declared.rows.FreeableRow.{FreeableRow}
-use Rattle.rules.specs.Books.{Books, books, World, world, unused, state_of, offset_of, segment_of, with_segments, with_freeable, with_blobs, with_stabilized}
-use Rattle.rules.specs.Pages.{is_in, page_count, left_count}
+use Rattle.rules.specs.Books.{Books, World, world, state_of, with_freeable}
 use Rattle.rules.specs.Freeing.{put_free, unordered, without_lsn, freed}
-use Rattle.rules.specs.Cleaning.{cleaned, start_draining}
-use Rattle.rules.specs.Stabilizing.{much_is_free, free_below_tip, inactive_count, inactive_at, first_some, last_inactive, drain_found, drained_by_share, blobs_of, blobs_off, held_back_by, closed_at, number_at, number_of_lsn, removed_by, remove_blobs, release, release_all, opened_up, shut, shared, deactivated_by, deactivate_state, deactivated, then_deactivated, deactivate_all}
+use Rattle.rules.specs.Stabilizing.{held_back_by, number_at, number_of_lsn, release, release_all}
 use Rattle.rules.specs.Recount.{upd}
 use Rattle.rules.specs.Runs.{Log, recorded}
-use Rattle.safety.proofs.Plain.{Seg, Free, Active, Shut, seg_is_free, active, lsn_of, latest, is_none, the, here, mapped, upd2, greatest, mem, Count, seen, above}
-use Rattle.safety.proofs.Views.{View, view, Holders, Inv, v_release, v_close, release_keeps, close_keeps, active_ord}
-use Rattle.safety.proofs.Looks.{signed_law, number_in, seg_of, on_of, ord_of, row_of, keep_of, seg_set, keep_remove, find_skip}
-use Rattle.safety.proofs.Counts.{tally, left_in, pages_tally, left_tally}
-use Rattle.safety.proofs.Moves.{Moved, moved_refl, moved_close}
-use Rattle.safety.proofs.Steps.{Setting, view_of, Plus, PlusOpt, Positive, Tallied, Whole, clear, Good, Went, stayed, then_went, reach, changed_whole, put_whole, put_view}
-use Rattle.safety.proofs.Cleans.{Trimmed, cut_trims, cut_tail_good, every_append, start_draining_good, cleaned_good}
-use Rattle.safety.proofs.Frames.{Weighs, Lighter, Alone, alone_same, cleaned_alone, start_draining_alone}
+use Rattle.safety.proofs.Plain.{seg_is_free, active, lsn_of, the, mapped, upd2, Count, seen, above}
+use Rattle.safety.proofs.Views.{View, view, Holders, Inv, v_release, release_keeps}
+use Rattle.safety.proofs.Looks.{signed_law, number_in, seg_of, on_of, ord_of, row_of, keep_of, keep_remove, find_skip}
+use Rattle.safety.proofs.Steps.{Setting, view_of, PlusOpt, Positive, Whole, Good, put_whole, put_view}
+use Rattle.safety.proofs.Cleans.{Trimmed, cut_trims, cut_tail_good}
 
 -- ---- a number by its LSN
 number_is : (b : Books) (o : Option OrderingRow) → number_at b o ≡ the (mapped (number_in b.size) o)

@@ -1,9 +1,8 @@
 -- Start as a whole, and every run: what holds between calls holds after any calls, and each call is safe.
-use Rattle.std.proofs.Common.{◌≡◌, ℕ, zero, suc, ◌+◌, ◌-◌, ◌*◌, ◌/◌, ◌<◌, ◌≤◌, Bool, true, false, cond, not, ◌&&◌, ◌||◌, eqb, ltb, leb, ◌⊎◌, List, [], ◌∷◌, length, get_or, set, replicate, ℤ, pos, negsuc, nat_abs, Some, None, Ok, Err, Option, Result, unwrap_or, sym, refl, ap, ◌∙◌, subst, inl, inr, mul-div_cancel, arith}
-use mathlib.Core.Path.{fun_ext}
+use Rattle.std.proofs.Common.{◌≡◌, ℕ, zero, suc, ◌*◌, ◌/◌, ◌<◌, ◌≤◌, Bool, true, false, not, ◌&&◌, eqb, ltb, leb, List, [], ◌∷◌, length, get_or, set, replicate, ℤ, pos, nat_abs, Some, None, Ok, Err, Option, Result, unwrap_or, sym, refl, ap, ◌∙◌, subst, mul-div_cancel, arith}
 use lib.Signed.{non_neg}
 use Rattle.std.specs.List.{ContainsAt as Has}
-use Rattle.std.proofs.lemmas.Bool.{cases_eq, cases_lt, eq-eqb, ne_eqb, and_parts, and_from, true≢false, leb-true, leb-false}
+use Rattle.std.proofs.lemmas.Bool.{eq-eqb, and_parts, true≢false, leb-true, leb-false}
 use Rattle.std.proofs.lemmas.List.{length-replicate}
 use Rattle.table.specs.Rows.{every}
 use Rattle.host.specs.Meaning.{Answer}
@@ -17,23 +16,22 @@ use Rattle.segment.specs.declared.state.State.{State}
 use Rattle.segment.specs.declared.state.State.TheVariants as is
 use Rattle.segment.specs.declared.state.Free as free-record
 use Rattle.rules.specs.declared.refusal.Refusal.{Refusal}
-use Rattle.rules.specs.declared.refusal.Refusal.TheVariants as no
 use Rattle.rules.specs.Books.{Books, World, world, unused, state_of, with_segments, with_ordering}
 use Rattle.rules.specs.Recount.{Recount, told_active, told_size, told_start, told_lsn}
-use Rattle.rules.specs.Runs.{Call, Start, Link, Replace, Next, Stabilize, Pop, Reply, Done, replied, Log, recorded}
+use Rattle.rules.specs.Runs.{Start, Done, replied, Log, recorded}
 use Rattle.rules.specs.Safety.{holds_after}
-use Rattle.rules.specs.Starting.{Plan, plan_refusal, lsns_out_of_range, is_segment_size, is_header, segment_count, covers, forms_page, active_past, blank, with_active, opened_at, has_base, and_then, recover_pages, order_all, ordered_by, ordered, recovered, free_all, kept_if, started_by, freed_after, start_by, started}
-use Rattle.safety.proofs.Plain.{Seg, seg_is_free, Count, counted, seen}
-use Rattle.safety.proofs.Views.{Holders, Inv}
+use Rattle.rules.specs.Starting.{Plan, plan_refusal, lsns_out_of_range, is_segment_size, is_header, segment_count, covers, forms_page, active_past, blank, with_active, opened_at, has_base, and_then, recover_pages, order_all, ordered_by, ordered, recovered, free_all, kept_if, started_by, freed_after, start_by}
+use Rattle.safety.proofs.Plain.{seg_is_free, counted}
+use Rattle.safety.proofs.Views.{Inv}
 use Rattle.safety.proofs.Looks.{seg_of}
 use Rattle.safety.proofs.Steps.{Setting, view_of, Plus, Whole, Good}
 use Rattle.safety.proofs.Frames.{Weighs}
-use Rattle.safety.proofs.Accepts.{calm, Sound, first_none}
-use Rattle.safety.proofs.Calls.{fine_of, Kept, Quiet, Along, Cleared}
-use Rattle.safety.proofs.Ever.{Called, ran, some_called}
+use Rattle.safety.proofs.Accepts.{first_none}
+use Rattle.safety.proofs.Calls.{fine_of, Kept, Quiet}
+use Rattle.safety.proofs.Ever.{Called, ran}
 use Rattle.safety.proofs.Recovers.{Fresh, Raw, raw_open, Got, got_pages}
-use Rattle.safety.proofs.Orderings.{at_start, waiting_from, ordered_good}
-use Rattle.safety.proofs.Listings.{nobody, wait_at, setting_at, wait_first, wait_done, Going, Listed, all_listed}
+use Rattle.safety.proofs.Orderings.{waiting_from, ordered_good}
+use Rattle.safety.proofs.Listings.{nobody, wait_at, wait_first, wait_done, Going, Listed, all_listed}
 
 -- ---- before any row
 all_unused : (k m : ℕ) → get_or (replicate k unused) m unused ≡ unused

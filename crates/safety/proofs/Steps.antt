@@ -1,36 +1,31 @@
 -- Freeing with its cuts and cleaning, on the lists: each keeps the books whole, the invariant and the clear log.
-use Rattle.std.proofs.Common.{◌≡◌, ℕ, zero, suc, ◌+◌, ◌-◌, ◌*◌, ◌/◌, ◌<◌, ◌≤◌, Bool, true, false, cond, not, ◌&&◌, eqb, ltb, leb, ◌⊎◌, List, [], ◌∷◌, ◌++◌, length, get_or, set, ℤ, pos, negsuc, nat_abs, is_some, Some, None, Ok, Err, Option, sym, refl, ap, ◌∙◌, subst, inl, inr, suc-mul, mul-div_cancel, arith}
-use mathlib.Core.Path.{fun_ext}
+use Rattle.std.proofs.Common.{◌≡◌, ℕ, ◌*◌, ◌/◌, ◌<◌, ◌≤◌, Bool, true, false, not, ◌&&◌, eqb, leb, ◌⊎◌, List, length, get_or, set, ℤ, pos, negsuc, nat_abs, Some, None, Ok, Err, Option, sym, refl, ap, ◌∙◌, subst, inl, inr, mul-div_cancel, arith}
 use lib.Signed.{le_z, non_neg}
-use Rattle.std.proofs.lemmas.Bool.{cases_eq, cases_lt, eq-eqb, ne_eqb, eqb-true, eqb-false, and_parts, and_from, true≢false, ltb-true, leb-true, le-leb, cond-true, not-true}
-use Rattle.std.proofs.lemmas.List.{get_or_past, get_or-set_same, get_or-set_other, length-set, set-get_or}
-use Rattle.table.specs.Order.{Lawful, unsigned_lawful, signed_lawful}
+use Rattle.std.proofs.lemmas.Bool.{cases_eq, cases_lt, eq-eqb, ne_eqb, eqb-true, true≢false}
+use Rattle.std.proofs.lemmas.List.{get_or_past, get_or-set_same, get_or-set_other, length-set}
+use Rattle.table.specs.Order.{unsigned_lawful, signed_lawful}
 use Rattle.table.specs.Rows.{every, find, insert_row, remove_row, ascending, own_key}
-use Rattle.table.proofs.Laws.{ascending_insert, ascending_remove, every_put, every_cut}
+use Rattle.table.proofs.Laws.{ascending_insert, ascending_remove, every_put}
 use Rattle.table.proofs.Filters.{ascending_kept}
-use Rattle.host.specs.Meaning.{Answer, asked_cut}
+use Rattle.host.specs.Meaning.{Answer}
 use Rattle.host.specs.declared.request.Request.{Request}
 use Rattle.host.specs.declared.request.Request.TheVariants as asked
-use Rattle.segment.specs.Changes.{drained, emptied}
 use Rattle.segment.specs.Rows.{ordering_key, page_key, by_page, freeable_key, by_signed}
 use Rattle.segment.specs.declared.state.State.{State}
 use Rattle.segment.specs.declared.state.State.TheVariants as is
-use Rattle.segment.specs.declared.state.Free as free_state
-use Rattle.segment.specs.declared.state.Inactive.{Inactive}
-use Rattle.segment.specs.declared.state.Draining.{Draining}
 use Rattle.segment.specs.declared.rows.OrderingRow.{OrderingRow}
 use Rattle.segment.specs.declared.rows.PageRow.{PageRow}
 use Rattle.segment.specs.declared.rows.FreeableRow.{FreeableRow}
-use Rattle.rules.specs.Books.{Books, books, World, world, unused, state_of, offset_of, segment_of, with_segments}
-use Rattle.rules.specs.Pages.{rows_off, is_in, all_queued}
-use Rattle.rules.specs.Freeing.{put_free, unordered, without_lsn, is_free_offset, can_cut, lowered, cut_by, cut_once, cut_tail, freed}
+use Rattle.rules.specs.Books.{Books, World, unused, state_of, with_segments}
+use Rattle.rules.specs.Pages.{rows_off, is_in}
+use Rattle.rules.specs.Freeing.{put_free, unordered, without_lsn}
 use Rattle.rules.specs.Recount.{upd}
-use Rattle.rules.specs.Runs.{Log, recorded}
-use Rattle.safety.proofs.Plain.{Seg, Free, Active, Shut, seg_is_free, active, lsn_of, latest, is_none, the, here, mapped, upd2, greatest, mem, Count, count, told_next, told_link, told_away, told_stored, seen, above}
-use Rattle.safety.proofs.Views.{View, view, Holders, Inv, v_free, v_hold, v_close, free_keeps, hold_keeps, Same, same_keeps, v_cut, cut_keeps, active_ord}
-use Rattle.safety.proofs.Looks.{page_law, signed_law, seg_of, on_of, ord_of, row_of, keep_of, times_one, seg_set, on_insert, on_remove, ord_insert, ord_remove, row_insert, row_drop, row_queue, keep_insert, keep_remove, in_eqb}
-use Rattle.safety.proofs.Counts.{tally, left_in, tally_off, queue_in, queue_left, all_left}
-use Rattle.safety.proofs.Moves.{Moved, moved_refl, moved_trans, moved_same, moved_free, moved_hold, moved_close}
+use Rattle.rules.specs.Runs.{Log}
+use Rattle.safety.proofs.Plain.{Free, seg_is_free, Count, seen, above}
+use Rattle.safety.proofs.Views.{View, view, Holders, Inv}
+use Rattle.safety.proofs.Looks.{page_law, seg_of, on_of, ord_of, row_of, keep_of, on_insert, ord_remove, row_drop, in_eqb}
+use Rattle.safety.proofs.Counts.{tally, left_in, tally_off}
+use Rattle.safety.proofs.Moves.{Moved, moved_refl, moved_trans}
 use Rattle.std.specs.Ordering.{nat_cmp, int_cmp}
 
 -- the Free segments that start has still to list, and the blobs that may be removed

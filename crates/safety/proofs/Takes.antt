@@ -1,14 +1,11 @@
 -- Link writes a page row; a replacement takes a page away from one segment: both keep the invariant.
-use Rattle.std.proofs.Common.{◌≡◌, ℕ, zero, suc, ◌+◌, ◌-◌, ◌*◌, ◌/◌, ◌<◌, ◌≤◌, max, Bool, true, false, cond, not, ◌&&◌, eqb, ltb, leb, ◌⊎◌, List, [], ◌∷◌, length, get_or, set, ℤ, pos, negsuc, nat_abs, Some, None, Option, sym, refl, ap, ◌∙◌, subst, inl, inr, arith}
+use Rattle.std.proofs.Common.{◌≡◌, ℕ, ◌+◌, ◌/◌, ◌<◌, ◌≤◌, max, Bool, true, false, cond, not, eqb, ltb, ◌⊎◌, List, length, set, ℤ, pos, nat_abs, Some, None, Option, sym, refl, ap, ◌∙◌, subst, inl, inr, arith}
 use mathlib.Core.Path.{fun_ext}
-use lib.Signed.{lt_z}
 use Rattle.std.specs.Int.{int_max}
-use Rattle.std.proofs.lemmas.Bool.{cases_eq, cases_lt, eq-eqb, ne_eqb, eqb-true, eqb-false, and_parts, true≢false, cond-true, cond-false, not-true, lt-ltb, le-ltb}
-use Rattle.std.proofs.lemmas.List.{get_or-set_same, get_or-set_other, length-set}
+use Rattle.std.proofs.lemmas.Bool.{cases_eq, cases_lt, eq-eqb, ne_eqb, true≢false, not-true, lt-ltb, le-ltb}
+use Rattle.std.proofs.lemmas.List.{length-set}
 use Rattle.table.specs.Rows.{find, insert_row, ascending}
 use Rattle.table.proofs.Laws.{ascending_insert, find_key}
-use Rattle.host.specs.Meaning.{Answer}
-use Rattle.host.specs.declared.request.Request.{Request}
 use Rattle.segment.specs.Rows.{page_key, by_page}
 use Rattle.segment.specs.Signs.{same_z}
 use Rattle.segment.specs.Updates.{linked, taken, leaves}
@@ -16,18 +13,18 @@ use Rattle.segment.specs.declared.state.State.{State}
 use Rattle.segment.specs.declared.state.State.TheVariants as is
 use Rattle.segment.specs.declared.state.Active as active-state
 use Rattle.segment.specs.declared.rows.PageRow.{PageRow}
-use Rattle.rules.specs.Books.{Books, World, world, unused, state_of}
+use Rattle.rules.specs.Books.{Books, World, world, state_of}
 use Rattle.rules.specs.Pages.{page_row, is_left, is_lying, new_row, written, left_row, marked, is_in}
 use Rattle.rules.specs.Links.{linked_state, linked_at}
 use Rattle.rules.specs.Replacing.{taken_at}
 use Rattle.rules.specs.Recount.{upd}
 use Rattle.rules.specs.Runs.{Log}
-use Rattle.safety.proofs.Plain.{Seg, Free, Active, Shut, seg_is_free, active, lsn_of, latest, is_none, the, here, mapped, upd2, Count, told_link, told_away, seen, above}
+use Rattle.safety.proofs.Plain.{Seg, seg_is_free, active, lsn_of, the, mapped, upd2, Count, told_link, told_away, seen, above}
 use Rattle.safety.proofs.Views.{View, view, Holders, Inv, v_link, link_keeps, v_away, Alike, away_keeps, active_ord}
 use Rattle.safety.proofs.Looks.{page_law, seg_of, on_of, ord_of, row_of, keep_of, mark, seg_set, row_insert}
 use Rattle.safety.proofs.Counts.{tally, left_in, other_in, other_left, marks_in, marks_left}
 use Rattle.safety.proofs.Moves.{Moved, moved_same}
-use Rattle.safety.proofs.Steps.{Setting, view_of, Plus, Positive, Tallied, Counts, Whole, Good, Went, reach, counts_set, signs_set}
+use Rattle.safety.proofs.Steps.{Setting, view_of, Plus, Positive, Tallied, Whole, Good, Went, reach, counts_set, signs_set}
 use Rattle.safety.proofs.Cleans.{upd_id}
 
 -- ---- rows

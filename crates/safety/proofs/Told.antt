@@ -1,10 +1,10 @@
 -- The recount in plain numbers follows the calls; what a replacement tells place by place is what the sums by segment tell.
-use Rattle.std.proofs.Common.{◌≡◌, ℕ, zero, suc, ◌+◌, ◌-◌, ◌*◌, ◌/◌, ◌<◌, ◌≤◌, max, Bool, true, false, cond, not, ◌&&◌, eqb, ltb, leb, ◌⊎◌, List, [], ◌∷◌, ℤ, pos, negsuc, ◌+ℤ◌, ◌-ℤ◌, nat_abs, Some, None, Option, sym, refl, ap, ◌∙◌, subst, inl, inr, arith}
+use Rattle.std.proofs.Common.{◌≡◌, ℕ, ◌+◌, ◌/◌, ◌<◌, ◌≤◌, max, Bool, true, false, cond, ◌&&◌, eqb, ltb, ◌⊎◌, List, [], ◌∷◌, ℤ, pos, ◌-ℤ◌, nat_abs, Some, None, Option, sym, refl, ap, ◌∙◌, subst, inl, inr, arith}
 use mathlib.Core.Path.{fun_ext}
 use lib.Signed.{non_neg}
 use Rattle.std.specs.List.{ContainsAt as Has}
 use Rattle.std.proofs.lemmas.Int.{ints}
-use Rattle.std.proofs.lemmas.Bool.{cases_eq, cases_lt, eq-eqb, ne_eqb, eqb-true, eqb-false, and_parts, and_from, true≢false, not-true, ltb-true, ltb-false, lt-ltb, le-ltb}
+use Rattle.std.proofs.lemmas.Bool.{cases_eq, cases_lt, eq-eqb, ne_eqb, and_parts, and_from, ltb-true, lt-ltb, le-ltb}
 use Rattle.table.specs.Rows.{every}
 use Rattle.segment.specs.Pointers.{lid_of, blob_of}
 use Rattle.segment.specs.Signs.{same_z}
@@ -14,12 +14,12 @@ use Rattle.rules.specs.Links.{info_segment}
 use Rattle.rules.specs.Replacing.{same_blob, add_size, sums_onto, sums_of}
 use Rattle.rules.specs.Recount.{Recount, recount, upd, told_bytes, told_blob, told_olds}
 use Rattle.rules.specs.Recount as real
-use Rattle.safety.proofs.Plain.{Seg, seg_is_free, active, upd2, greatest, mem, Count, count, told_next, told_link, told_away, counted, plain, above}
+use Rattle.safety.proofs.Plain.{Seg, upd2, greatest, mem, Count, count, told_next, told_link, told_away, counted, plain, above}
 use Rattle.safety.proofs.Views.{View, Holders, Inv}
 use Rattle.safety.proofs.Moves.{Moved}
 use Rattle.safety.proofs.Steps.{Plus}
 use Rattle.safety.proofs.Visits.{past, rising, keys, told_aways, less_sums}
-use Rattle.safety.proofs.Deacts.{has_first, has_later}
+use Rattle.safety.proofs.Deacts.{has_later}
 
 upd_ap : {A B : Type 0} (f : A → B) (g : ℕ → A) (n : ℕ) (v : A) → (λ m. f (upd g n v m)) ≡ upd (λ m. f (g m)) n (f v)
 upd_ap f g n v = fun_ext (λ m. on m (eqb m n))

@@ -1,9 +1,8 @@
 -- The host is changed by requests only: what every answer keeps is kept by every call.
-use Rattle.std.proofs.Common.{◌≡◌, ℕ, zero, suc, Bool, true, false, cond, not, ◌&&◌, ◌||◌, eqb, leb, List, [], ◌∷◌, length, ℤ, pos, Some, None, Ok, Err, Option, Result, sym, refl, ap, ◌∙◌, subst}
+use Rattle.std.proofs.Common.{ℕ, zero, suc, Bool, true, false, cond, not, ◌&&◌, eqb, leb, List, [], ◌∷◌, length, ℤ, pos, Some, None, Ok, Err, Option, Result}
 use lib.Signed.{lt_z}
 use Rattle.host.specs.Meaning.{Answer, asked_cut, asked_fill, asked_remove}
 use Rattle.host.specs.declared.request.Request.{Request}
-use Rattle.segment.specs.declared.cache_info.CacheInfo.{CacheInfo}
 use Rattle.segment.specs.declared.rows.BlobRow.{BlobRow}
 use Rattle.segment.specs.declared.rows.FreeableRow.{FreeableRow}
 use Rattle.segment.specs.declared.rows.OrderingRow.{OrderingRow}
@@ -17,10 +16,10 @@ use Rattle.rules.specs.Books.{Books, World, world, state_of, offset_of}
 use Rattle.rules.specs.Calls as call
 use Rattle.rules.specs.Cleaning.{drain_if_empty, holder, settle, free_by, cleaned}
 use Rattle.rules.specs.Freeing.{put_free, can_cut, cut_once, cut_tail, freed}
-use Rattle.rules.specs.HandingOut.{next_at, popped}
+use Rattle.rules.specs.HandingOut.{next_at}
 use Rattle.rules.specs.Links.{out_of_range, or_else, link_refusal}
-use Rattle.rules.specs.Replacing.{taken_at, visited, replaced, replace_refusal}
-use Rattle.rules.specs.Runs.{Call, Start, Link, Replace, Next, Stabilize, Pop, Reply, step}
+use Rattle.rules.specs.Replacing.{taken_at, visited, replace_refusal}
+use Rattle.rules.specs.Runs.{Call, Start, Link, Replace, Next, Stabilize, Pop, step}
 use Rattle.rules.specs.Stabilizing.{removed_by, remove_blobs, release, release_all, number_of_lsn, blobs_of, deactivated_by, deactivate_state, deactivated, then_deactivated, deactivate_all, is_settled, level, stabilized_to, stabilized_at, is_free}
 use Rattle.rules.specs.Starting.{Plan, plan_refusal, recovered, filled, free_state, then_free, free_all, kept_if, started_by, freed_after, start_by}
 

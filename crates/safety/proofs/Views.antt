@@ -1,8 +1,8 @@
 -- The books as functions, and what always holds of them: kept by every small step. `todo` are the Free segments that start has still to list.
-use Rattle.std.proofs.Common.{◌≡◌, ℕ, suc, ◌+◌, ◌<◌, ◌≤◌, max, Bool, true, false, cond, not, ◌&&◌, eqb, ltb, leb, ◌⊎◌, List, [], ◌∷◌, Some, None, Option, sym, refl, ap, ◌∙◌, subst, inl, inr, arith}
+use Rattle.std.proofs.Common.{◌≡◌, ℕ, ◌+◌, ◌<◌, ◌≤◌, max, Bool, true, false, not, ◌&&◌, eqb, ltb, ◌⊎◌, List, [], ◌∷◌, Some, None, Option, sym, refl, ap, ◌∙◌, subst, inl, inr, arith}
 use Rattle.std.proofs.lemmas.Bool.{cases_lt}
 use Rattle.rules.specs.Recount.{upd}
-use Rattle.safety.proofs.Plain.{Seg, Free, Active, Shut, seg_is_free, active, lsn_of, latest, is_none, the, here, upd2, greatest, mem, Count, count, told_next, told_link, told_away, told_stored}
+use Rattle.safety.proofs.Plain.{Seg, Free, Active, Shut, seg_is_free, active, lsn_of, latest, is_none, the, here, upd2, greatest, mem, Count, told_next, told_link, told_away, told_stored}
 
 pub record View : Type 0 where
   pub tip : ℕ

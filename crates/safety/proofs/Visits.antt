@@ -1,13 +1,11 @@
 -- A replacement visits the old segments in turn: each is taken away from and cleaned, and the others are left alone.
-use Rattle.std.proofs.Common.{◌≡◌, ℕ, zero, suc, ◌+◌, ◌-◌, ◌*◌, ◌/◌, ◌<◌, ◌≤◌, max, Bool, true, false, cond, not, ◌&&◌, eqb, ltb, leb, ◌⊎◌, List, [], ◌∷◌, length, get_or, set, ℤ, pos, negsuc, ◌+ℤ◌, ◌-ℤ◌, nat_abs, Some, None, Option, sym, refl, ap, ◌∙◌, subst, inl, inr, arith}
-use mathlib.Core.Path.{fun_ext}
+use Rattle.std.proofs.Common.{◌≡◌, ℕ, ◌+◌, ◌-◌, ◌<◌, ◌≤◌, Bool, true, false, cond, not, ◌&&◌, ltb, ◌⊎◌, List, [], ◌∷◌, length, ℤ, pos, ◌-ℤ◌, nat_abs, Some, None, Option, sym, refl, ap, ◌∙◌, subst, inl, inr, arith}
 use Rattle.std.proofs.lemmas.Int.{ints}
-use Rattle.std.proofs.lemmas.Bool.{cases_eq, cases_lt, eq-eqb, ne_eqb, eqb-true, eqb-false, and_parts, and_from, true≢false, not-true, ltb-true, ltb-false}
+use Rattle.std.proofs.lemmas.Bool.{cases_eq, eq-eqb, ne_eqb, and_parts, true≢false, not-true, ltb-true, ltb-false}
 use Rattle.std.proofs.lemmas.List.{get_or-set_same, get_or-set_other}
-use Rattle.table.specs.Rows.{every, ascending}
+use Rattle.table.specs.Rows.{every}
 use Rattle.host.specs.Meaning.{Answer}
 use Rattle.host.specs.declared.request.Request.{Request}
-use Rattle.segment.specs.Rows.{page_key, by_page}
 use Rattle.segment.specs.Updates.{taken, leaves, deferred}
 use Rattle.segment.specs.declared.state.State.{State}
 use Rattle.segment.specs.declared.state.State.TheVariants as is
@@ -19,13 +17,13 @@ use Rattle.rules.specs.Cleaning.{cleaned}
 use Rattle.rules.specs.Replacing.{taken_at, visited}
 use Rattle.rules.specs.Recount.{upd}
 use Rattle.rules.specs.Runs.{Log, recorded}
-use Rattle.safety.proofs.Plain.{Seg, seg_is_free, active, is_none, the, here, mapped, upd2, greatest, mem, Count, told_away, seen}
-use Rattle.safety.proofs.Views.{Holders, Inv}
+use Rattle.safety.proofs.Plain.{seg_is_free, active, here, mapped, upd2, mem, Count, told_away, seen}
+use Rattle.safety.proofs.Views.{Holders}
 use Rattle.safety.proofs.Looks.{seg_of, row_of, mark}
-use Rattle.safety.proofs.Moves.{Moved, moved_trans, moved_renote}
-use Rattle.safety.proofs.Steps.{Setting, view_of, Whole, Good, Went, stayed, then_went, reach}
+use Rattle.safety.proofs.Moves.{moved_trans, moved_renote}
+use Rattle.safety.proofs.Steps.{Setting, Good, Went, stayed, then_went, reach}
 use Rattle.safety.proofs.Cleans.{cleaned_good}
-use Rattle.safety.proofs.Frames.{Weighs, Lighter, Alone, cleaned_alone}
+use Rattle.safety.proofs.Frames.{Weighs, Alone, cleaned_alone}
 use Rattle.safety.proofs.Takes.{taken_good, row_marked}
 
 pub lying_here : (o : Option PageRow) → is_lying o ≡ here (mapped mark o)

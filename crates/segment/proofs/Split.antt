@@ -1,5 +1,5 @@
 -- A page's rows, taken apart as the first row and the rest.
-use Rattle.std.proofs.Common.{◌≡◌, ℕ, ◌-◌, ◌≤◌, List, [], ◌∷◌, length, get_or, take, drop, refl, ap, arith}
+use Rattle.std.proofs.Common.{◌≡◌, ◌-◌, ◌≤◌, List, [], ◌∷◌, length, get_or, take, drop, ap, arith}
 use Rattle.std.proofs.lemmas.List.{take_all}
 use Rattle.segment.specs.declared.snapshot.SnapshotRow.{SnapshotRow}
 use Rattle.segment.specs.Pages.{page_by, page_state, kind_of}

@@ -1,5 +1,5 @@
 -- The pages of a snapshot: which rows form one.
-use Rattle.std.specs.Prelude.{ℕ, ◌+◌, Bool, true, false, cond, ◌&&◌, List, [], ◌∷◌, length, take, drop, Some, None, Option, ◌==◌, nat_eq, nat_le, nat_lt, slice_index_or}
+use Rattle.std.specs.Prelude.{ℕ, ◌+◌, Bool, cond, List, [], ◌∷◌, length, take, drop, Some, None, Option, ◌==◌, nat_eq, nat_le, nat_lt, slice_index_or}
 use Rattle.table.specs.Rows.{every}
 use Rattle.segment.specs.declared.snapshot.SnapshotRow.{SnapshotRow}
 use Rattle.segment.specs.declared.snapshot.PageEntry.{PageEntry}

@@ -3,7 +3,7 @@ use Rattle.std.proofs.Common.{◌≡◌, ℕ, suc, ◌+◌, ◌-◌, ◌<◌, �
 use lib.Seq.{take-set-lt}
 use borrow.Rule.Slice.PartMut.{put_mid}
 use Rattle.std.specs.List.{insert, remove}
-use Rattle.std.proofs.lemmas.List.{drop_more, drop_all, take-take, take_at, drop-drop, take-append-drop, take_rest, append-nil}
+use Rattle.std.proofs.lemmas.List.{drop_more, drop_all, take-take, take_at, drop-drop, take-append-drop}
 use Rattle.std.proofs.lemmas.Slice.{take-put_mid, drop-put_mid, between_is}
 
 module _ {X : Type 0} where

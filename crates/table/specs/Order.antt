@@ -1,5 +1,5 @@
 -- What a key's order is, and the orders of the keys. Assumes nothing.
-use Rattle.std.specs.Prelude.{◌≡◌, ◌<◌, ℤ, ◌<ℤ◌, refl}
+use Rattle.std.specs.Prelude.{◌≡◌, ◌<◌, ◌<ℤ◌, refl}
 use Rattle.std.specs.declared.cmp.Ordering.TheVariants.{Less, Equal, Greater}
 use Rattle.std.specs.declared.cmp.Ordering.{Ordering}
 use Rattle.std.proofs.Common.{ap, ◌∙◌, true≢false, subst}

@@ -1,5 +1,5 @@
 -- Deactivating: what the books keep on the way, and the rule by its cases.
-use Rattle.std.proofs.Common.{◌≡◌, ℕ, ◌<◌, Bool, true, false, List, length, get_or, Ok, Err, sym, refl, ap, ◌∙◌, subst, true≢false, arith}
+use Rattle.std.proofs.Common.{◌≡◌, ℕ, true, false, get_or, Ok, sym, refl, ap, true≢false}
 use Rattle.table.proofs.Filters.{ascending_kept, has_from_kept}
 use Rattle.host.specs.Meaning.{Answer}
 use Rattle.host.specs.declared.request.Request.{Request}

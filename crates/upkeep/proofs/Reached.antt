@@ -1,8 +1,7 @@
 -- The numbers and the room that a step finds in books that keep their order and bounds.
-use Rattle.std.proofs.Common.{◌≡◌, ℕ, ◌+◌, ◌*◌, ◌^◌, ◌<◌, ◌≤◌, Bool, true, false, cond, ◌&&◌, leb, List, length, set, sym, refl, ap, ◌∙◌, subst, true≢false, mul-le-mul, arith, length-set}
+use Rattle.std.proofs.Common.{◌≡◌, ℕ, ◌*◌, ◌^◌, ◌<◌, ◌≤◌, true, false, cond, length, sym, refl, ap, ◌∙◌, subst, true≢false, mul-le-mul, arith}
 use Rattle.std.proofs.lemmas.Bool.{and_parts, leb-true}
 use Rattle.table.specs.Rows.{insert_row, own_key}
-use Rattle.segment.specs.Changes.{drained}
 use Rattle.segment.specs.declared.state.Inactive.{Inactive}
 use Rattle.segment.specs.declared.state.State.{State}
 use Rattle.segment.specs.declared.state.State.TheVariants as is
@@ -14,7 +13,7 @@ use Rattle.orders.proofs.Every.{every_index}
 use Rattle.orders.proofs.Replaces.{reached}
 use Rattle.orders.proofs.BoundStarts.{within_steps}
 use Rattle.orders.proofs.Rooms.{at_most}
-use Rattle.ledger.proofs.Handing.{Numbers, numbers}
+use Rattle.ledger.proofs.Handing.{numbers}
 use Rattle.upkeep.specs.Drains.{is_drained}
 use Rattle.std.specs.Ordering.{nat_cmp}
 

@@ -1,5 +1,5 @@
 -- Releasing takes one row after the other: the rows that are left are those that were behind it.
-use Rattle.std.proofs.Common.{◌≡◌, ℕ, ◌<◌, true, List, [], ◌∷◌, length, is_some, Some, None, sym, refl, ap, ◌∙◌, subst, arith}
+use Rattle.std.proofs.Common.{◌≡◌, ℕ, ◌<◌, List, ◌∷◌, length, is_some, Some, None, sym, ap, ◌∙◌, subst, arith}
 use Rattle.std.specs.List.{ContainsAt as Has}
 use Rattle.table.specs.Rows.{first_of, remove_row}
 use Rattle.table.proofs.Filters.{has_from_kept}
@@ -8,7 +8,7 @@ use Rattle.host.specs.Meaning.{Answer}
 use Rattle.host.specs.declared.request.Request.{Request}
 use Rattle.segment.specs.Rows.{freeable_key, by_signed}
 use Rattle.segment.specs.declared.rows.FreeableRow.{FreeableRow}
-use Rattle.rules.specs.Books.{Books, World, world, with_freeable}
+use Rattle.rules.specs.Books.{Books, World, with_freeable}
 use Rattle.rules.specs.Freeing.{put_free}
 use Rattle.rules.specs.Stabilizing.{held_back_by, number_of_lsn, release, release_all}
 use Rattle.orders.specs.Share.{Shared}

@@ -1,13 +1,12 @@
 -- A Draining segment without pages is held back or freed: the rule by its cases, and the room for it.
-use Rattle.std.proofs.Common.{◌≡◌, ℕ, ◌<◌, ◌≤◌, Bool, true, false, cond, eqb, length, ℤ, Some, None, Option, sym, refl, ap, ◌∙◌, subst, arith, length-set}
+use Rattle.std.proofs.Common.{◌≡◌, ℕ, ◌<◌, ◌≤◌, Bool, true, false, cond, eqb, length, ℤ, Some, None, Option, refl, ap, ◌∙◌, arith}
 use Rattle.std.proofs.lemmas.Bool.{eqb-true, eq-eqb}
 use Rattle.host.specs.Meaning.{Answer}
 use Rattle.host.specs.declared.request.Request.{Request}
-use Rattle.segment.specs.Changes.{emptied}
 use Rattle.segment.specs.declared.state.Draining.{Draining}
 use Rattle.segment.specs.declared.state.State.{State}
 use Rattle.segment.specs.declared.state.State.TheVariants as is
-use Rattle.rules.specs.Books.{Books, World, world, state_of}
+use Rattle.rules.specs.Books.{Books, World, state_of}
 use Rattle.rules.specs.Cleaning.{holder, emptied_at, held_by, settle, free_by, free_if_left}
 use Rattle.rules.specs.Freeing.{put_free}
 use Rattle.orders.specs.Share.{Shared}

@@ -1,5 +1,5 @@
 -- The own segment and the others are seen as the rule has them.
-use Rattle.std.proofs.Common.{◌≡◌, ◌/◌, sym, ap, ◌∙◌, w64}
+use Rattle.std.proofs.Common.{◌/◌, sym, ap, ◌∙◌, w64}
 use Rattle.std.proofs.lemmas.Int.{to_z-of_z}
 use Rattle.ledger.specs.Ledgers.{books_of}
 use Rattle.entries.proofs.Accepted.{info_small}

@@ -1,5 +1,5 @@
 -- A row over the one that is there adds none.
-use Rattle.std.proofs.Common.{◌≡◌, sym, refl, arith}
+use Rattle.std.proofs.Common.{sym, refl, arith}
 use Rattle.table.specs.Held.{held}
 use Rattle.segment.specs.Rows.{page_key}
 use Rattle.rules.specs.Pages.{left_row}

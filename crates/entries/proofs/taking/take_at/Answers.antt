@@ -1,8 +1,7 @@
 -- The state and the page row are those of the rule.
-use Rattle.std.proofs.Common.{◌≡◌, true, None, vec_items, sym, subst, w64}
+use Rattle.std.proofs.Common.{◌≡◌, None, vec_items, sym, subst, w64}
 use Rattle.std.proofs.lemmas.Int.{to_z-of_z}
 use Rattle.table.specs.Held.{held}
-use Rattle.segment.specs.Bounds.{may_take}
 use Rattle.rules.specs.Books.{books}
 use Rattle.rules.specs.Replacing.{from_state}
 use Rattle.ledger.specs.Ledgers.{books_of, states}

@@ -1,5 +1,5 @@
 -- Whether the segment is reached is told by the number of segments, which is the number of states.
-use Rattle.std.proofs.Common.{◌≡◌, ℕ, ◌<◌, ◌≤◌, List, [], ◌∷◌, ◌++◌, length, set, ℤ, vec_items, vec_len, vec_capacity, sym, refl, ap, ◌∙◌, subst, arith, length-append, w64}
+use Rattle.std.proofs.Common.{ℕ, ◌<◌, ◌≤◌, List, [], ◌∷◌, ◌++◌, length, set, vec_items, vec_capacity, sym, ap, ◌∙◌, subst, arith, length-append, w64}
 use Rattle.std.proofs.lemmas.List.{map_push}
 use Rattle.std.proofs.lemmas.Int.{to_z-of_z}
 use Rattle.segment.specs.Changes.{opened}

@@ -1,5 +1,5 @@
 -- The pages of a segment are one range of the table, and the walk ends at the first that is queued.
-use Rattle.std.proofs.Common.{◌≡◌, filter, ap, ◌∙◌}
+use Rattle.std.proofs.Common.{filter, ap, ◌∙◌}
 use Rattle.table.specs.Held.{held}
 use Rattle.table.specs.Rows.{first_of}
 use Rattle.table.proofs.Pairs.{unsigned_range}

@@ -1,5 +1,5 @@
 -- The state that goes out is the one that was there.
-use Rattle.std.proofs.Common.{◌≡◌, set, vec_items, refl, ap, ◌∙◌}
+use Rattle.std.proofs.Common.{set, vec_items, refl, ap, ◌∙◌}
 use Rattle.std.proofs.lemmas.List.{map-set}
 use Rattle.ledger.specs.Ledgers.{states}
 use Rattle.ledger.proofs.Reading.{reached, state_at}

@@ -1,5 +1,5 @@
 -- What is taken away keeps what the books keep, and then the segment may be cleaned.
-use Rattle.std.proofs.Common.{◌≡◌, ap, ◌∙◌, w64}
+use Rattle.std.proofs.Common.{ap, ◌∙◌, w64}
 use Rattle.std.proofs.lemmas.Int.{to_z-of_z}
 use Rattle.rules.specs.Books.{Books, world}
 use Rattle.rules.specs.Cleaning.{cleaned}

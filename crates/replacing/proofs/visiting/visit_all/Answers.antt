@@ -1,5 +1,5 @@
 -- One visit is one step of the rule, and the rule ends where no segment is left.
-use Rattle.std.proofs.Common.{◌≡◌, ap, ◌∙◌, w64}
+use Rattle.std.proofs.Common.{ap, ◌∙◌, w64}
 use Rattle.std.proofs.lemmas.Int.{to_z-of_z}
 use Rattle.rules.specs.Links.{out_of_range}
 use Rattle.upkeep.specs.Worlds.{seen}

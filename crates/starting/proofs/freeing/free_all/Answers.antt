@@ -1,5 +1,5 @@
 -- One step of the walk, its early end and its end.
-use Rattle.std.proofs.Common.{◌≡◌, ◌<◌, ◌≤◌, length, Err, sym, refl, ap, ◌∙◌, subst}
+use Rattle.std.proofs.Common.{◌<◌, ◌≤◌, length, Err, sym, refl, ap, ◌∙◌, subst}
 use Rattle.std.proofs.lemmas.Result.{err_from_is_err_and}
 use Rattle.ledger.specs.Ledgers.{books_of}
 use Rattle.ledger.proofs.Reading.{as_many}

@@ -1,5 +1,5 @@
 -- What is drained is Inactive, and the test is that of the rule.
-use Rattle.std.proofs.Common.{◌≡◌, sym, refl, ap, ◌∙◌}
+use Rattle.std.proofs.Common.{sym, ◌∙◌}
 use Rattle.rules.specs.Books.{state_of}
 use Rattle.ledger.specs.Ledgers.{books_of}
 use Rattle.upkeep.proofs.Reached.{inactive_of, drained_inactive, drain_then, drain_else}

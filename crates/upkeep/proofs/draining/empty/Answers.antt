@@ -1,9 +1,9 @@
 -- The segment is moved out, emptied and written back.
-use Rattle.std.proofs.Common.{◌≡◌, set, vec_items, sym, refl, ap, ◌∙◌, subst, w64, SFits, rules}
+use Rattle.std.proofs.Common.{set, vec_items, ap, ◌∙◌, w64, SFits, rules}
 use Rattle.std.proofs.lemmas.Int.{to_z-of_z}
 use Rattle.table.specs.Held.{held}
 use Rattle.rules.specs.Books.{books}
-use Rattle.ledger.specs.Ledgers.{books_of, states}
+use Rattle.ledger.specs.Ledgers.{states}
 use Rattle.ledger.proofs.Reading.{rewritten}
 use Rattle.upkeep.proofs.draining.empty.Goals as goal
 

@@ -1,7 +1,6 @@
 -- The bounds of the books are those of each state.
-use Rattle.std.proofs.Common.{◌≡◌, true, sym, refl, ap, ◌∙◌, subst}
+use Rattle.std.proofs.Common.{◌≡◌, true, sym, subst}
 use Rattle.orders.specs.Within.{is_bounded}
-use Rattle.rules.specs.Books.{state_of}
 use Rattle.ledger.specs.Ledgers.{books_of}
 use Rattle.ledger.proofs.Handing.{numbers}
 use Rattle.upkeep.proofs.Reached.{state_bounded}

@@ -1,5 +1,5 @@
 -- An Inactive state within its bounds has few bytes.
-use Rattle.std.proofs.Common.{◌≡◌, true, sym, subst}
+use Rattle.std.proofs.Common.{◌≡◌, true, subst}
 use Rattle.orders.specs.Within.{is_bounded}
 use Rattle.upkeep.proofs.Reached.{inactive_bytes}
 use Rattle.upkeep.proofs.draining.is_drained_state.Goals as goal

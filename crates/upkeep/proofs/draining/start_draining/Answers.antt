@@ -1,7 +1,6 @@
 -- The state, the pages and the list are changed as the rule says.
-use Rattle.std.proofs.Common.{◌≡◌, ◌≤◌, length, set, vec_items, sym, refl, ap, ◌∙◌, subst, arith}
+use Rattle.std.proofs.Common.{set, vec_items, ap, ◌∙◌, arith}
 use Rattle.table.specs.Held.{held}
-use Rattle.segment.specs.declared.state.State.TheVariants as is
 use Rattle.rules.specs.Books.{books}
 use Rattle.ledger.specs.Ledgers.{books_of, states}
 use Rattle.ledger.proofs.Reading.{rewritten, still_reached}

@@ -1,5 +1,5 @@
 -- Each row comes after those before it.
-use Rattle.std.proofs.Common.{◌≡◌, ◌<◌, length, ap, ◌∙◌, arith}
+use Rattle.std.proofs.Common.{length, ap, ◌∙◌, arith}
 use Rattle.std.proofs.lemmas.List.{take_all, length-take-le}
 use Rattle.segment.specs.Rows.{blob_key, by_signed}
 use Rattle.entries.proofs.Lengths.{copied_more}

@@ -1,5 +1,5 @@
 -- There is room for one row more.
-use Rattle.std.proofs.Common.{◌≡◌, ◌+◌, arith}
+use Rattle.std.proofs.Common.{◌+◌, arith}
 use Rattle.table.specs.Held.{held}
 use Rattle.entries.specs.SumKeys.{sum_key, sum_row}
 use Rattle.entries.proofs.Lengths.{length_insert}

@@ -1,9 +1,8 @@
 -- The walk begins with no rows, adds one entry a turn, and ends with the sums.
 use Rattle.std.proofs.Common.{arith}
 use Rattle.table.specs.Held.{held}
-use Rattle.rules.specs.Links.{info_segment}
 use Rattle.ledger.specs.Ledgers.{books_of}
-use Rattle.entries.proofs.Summing.{summed_none, summed_more, summed_end, summed_fits, old_small}
+use Rattle.entries.proofs.Summing.{summed_none, summed_more, summed_end, summed_fits}
 use Rattle.entries.proofs.sums.Sums.sum_up.Goals as goal
 
 pub loop-old-init : goal.loop-old-init

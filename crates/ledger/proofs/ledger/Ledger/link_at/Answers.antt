@@ -1,5 +1,5 @@
 -- The segment gets its bytes and the page its row, and nothing else changes.
-use Rattle.std.proofs.Common.{◌≡◌, set, vec_items, ap, ◌∙◌}
+use Rattle.std.proofs.Common.{set, vec_items, ap, ◌∙◌}
 use Rattle.table.specs.Held.{held}
 use Rattle.rules.specs.Books.{books}
 use Rattle.rules.specs.Links.{linked_state}

@@ -1,8 +1,7 @@
 -- The books after handing out keep what books keep, so there is room for one segment and one row more.
-use Rattle.std.proofs.Common.{◌≡◌, ℕ, ◌+◌, ◌*◌, ◌%◌, ◌<◌, ◌≤◌, false, not, eqb, ltb, length, ℤ, nat_abs, is_some, Ok, sym, ap, ◌∙◌, subst, arith, w64}
+use Rattle.std.proofs.Common.{◌≡◌, ◌+◌, ◌%◌, ◌<◌, ◌≤◌, false, not, ltb, length, nat_abs, is_some, Ok, sym, ap, ◌∙◌, subst, arith, w64}
 use Rattle.std.proofs.lemmas.Int.{to_z-of_z}
 use Rattle.std.proofs.lemmas.Bool.{eq-eqb, le-ltb}
-use Rattle.table.specs.Held.{held}
 use Rattle.table.specs.Rows.{find}
 use Rattle.segment.specs.Rows.{ordering_key}
 use Rattle.rules.specs.Books.{Books}

@@ -1,5 +1,5 @@
 -- The row of the page is there already.
-use Rattle.std.proofs.Common.{◌≡◌, ◌≤◌, length, sym, ap, ◌∙◌, subst, arith, rules}
+use Rattle.std.proofs.Common.{◌≤◌, length, sym, ◌∙◌, rules}
 use Rattle.table.specs.Held.{held, limit_of}
 use Rattle.ledger.proofs.Queueing.{unqueued_room}
 use Rattle.ledger.proofs.ledger.Ledger.pop_from.Goals as goal

@@ -1,5 +1,5 @@
 -- What is listed is reached.
-use Rattle.std.proofs.Common.{◌≡◌, sym, ◌∙◌}
+use Rattle.std.proofs.Common.{sym, ◌∙◌}
 use Rattle.ledger.specs.Ledgers.{books_of}
 use Rattle.ledger.proofs.Handing.{numbers, first_reached}
 use Rattle.ledger.proofs.ledger.Ledger.pop_page.Goals as goal

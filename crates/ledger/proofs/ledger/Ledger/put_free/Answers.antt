@@ -1,10 +1,10 @@
 -- Each table is edited as the rule says, and nothing else.
-use Rattle.std.proofs.Common.{◌≡◌, vec_items, ap, ◌∙◌, arith}
+use Rattle.std.proofs.Common.{vec_items, ap, ◌∙◌, arith}
 use Rattle.table.specs.Held.{held}
 use Rattle.segment.specs.Rows.{page_key}
-use Rattle.rules.specs.Books.{Books, books, state_of}
-use Rattle.rules.specs.Freeing.{put_free, unordered}
-use Rattle.ledger.specs.Ledgers.{books_of, states}
+use Rattle.rules.specs.Books.{books}
+use Rattle.rules.specs.Freeing.{unordered}
+use Rattle.ledger.specs.Ledgers.{states}
 use Rattle.ledger.proofs.Reading.{reached, state_at}
 use Rattle.table.proofs.Pairs.{unsigned_without}
 use Rattle.ledger.proofs.ledger.Ledger.put_free.Goals as goal

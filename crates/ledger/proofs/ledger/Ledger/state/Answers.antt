@@ -1,5 +1,5 @@
 -- A segment past the list of states reads as one never used.
-use Rattle.std.proofs.Common.{◌≡◌, ◌<◌, ◌≤◌, sym, ◌∙◌, subst}
+use Rattle.std.proofs.Common.{◌<◌, ◌≤◌, sym, subst}
 use Rattle.ledger.proofs.Reading.{as_many, past, state_at}
 use Rattle.ledger.proofs.ledger.Ledger.state.Goals as goal
 

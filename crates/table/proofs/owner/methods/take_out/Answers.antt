@@ -1,5 +1,5 @@
 -- The slice was the vector's items, and what it became are its items now.
-use Rattle.std.proofs.Common.{◌≡◌, ◌-◌, true, length, take, vec_items, vec_len, sym, refl, ap, ◌∙◌, subst, arith}
+use Rattle.std.proofs.Common.{◌≡◌, ◌-◌, true, length, take, vec_len, refl, ap, ◌∙◌, subst, arith}
 use Rattle.std.specs.Vec.{with_items}
 use Rattle.std.specs.Option.{option_to_list}
 use Rattle.std.proofs.lemmas.List.{with_items_is}

@@ -1,12 +1,11 @@
 -- Draining keeps what the books keep, and then the segment may be freed.
-use Rattle.std.proofs.Common.{◌≡◌, sym, refl, ap, ◌∙◌, subst}
+use Rattle.std.proofs.Common.{sym, ap, ◌∙◌, subst}
 use Rattle.rules.specs.Books.{world}
 use Rattle.rules.specs.Cleaning.{free_if_left, cleaned}
 use Rattle.orders.specs.Share.{Shared}
 use Rattle.orders.proofs.Cleans.{drain_keeps}
 use Rattle.orders.proofs.ShareSteps.{share_steps}
 use Rattle.ledger.specs.Ledgers.{books_of}
-use Rattle.upkeep.specs.Worlds.{seen}
 use Rattle.upkeep.proofs.world.World.clean.Goals as goal
 
 pub free_if_left-requires : goal.free_if_left-requires

@@ -1,14 +1,13 @@
 -- The four steps one after the other; the books keep what they keep at each.
-use Rattle.std.proofs.Common.{◌≡◌, ◌<◌, length, sym, refl, ap, ◌∙◌, subst}
+use Rattle.std.proofs.Common.{◌≡◌, ◌<◌, length, sym, ap, ◌∙◌, subst}
 use Rattle.segment.specs.declared.state.State.TheVariants as is
-use Rattle.rules.specs.Books.{Books, World, world, state_of}
+use Rattle.rules.specs.Books.{Books, world, state_of}
 use Rattle.rules.specs.Cleaning.{cleaned}
-use Rattle.rules.specs.Stabilizing.{held_back_by, release_all, opened_up, shut, shared}
+use Rattle.rules.specs.Stabilizing.{held_back_by, release_all, shut, shared}
 use Rattle.orders.specs.Share.{Shared}
 use Rattle.orders.proofs.Cleans.{cleaned_keeps}
 use Rattle.orders.proofs.ShareSteps.{share_steps}
 use Rattle.ledger.specs.Ledgers.{books_of}
-use Rattle.upkeep.specs.Worlds.{seen}
 use Rattle.upkeep.proofs.Closes.{active_placed, opened_keeps, opened_segments, opened_state}
 use Rattle.upkeep.proofs.world.World.close.Goals as goal
 

@@ -1,5 +1,5 @@
 -- The tip is the end of a segment, and the fault of its cut has room.
-use Rattle.std.proofs.Common.{◌≡◌, ◌-◌, ◌≤◌, length, Err, sym, refl, ap, ◌∙◌, subst}
+use Rattle.std.proofs.Common.{◌≡◌, ◌-◌, ◌≤◌, length, Err, sym, ap, subst}
 use Rattle.table.specs.Held.{held}
 use Rattle.rules.specs.Freeing.{remembered}
 use Rattle.ledger.specs.Ledgers.{books_of}

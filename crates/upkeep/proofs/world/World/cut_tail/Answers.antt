@@ -1,5 +1,5 @@
 -- One cut is one step of the rule, and the rule ends where no cut can be made.
-use Rattle.std.proofs.Common.{◌≡◌, ◌<◌, length, sym, refl, ap, ◌∙◌, subst}
+use Rattle.std.proofs.Common.{◌<◌, length, sym, ap, ◌∙◌, subst}
 use Rattle.rules.specs.Freeing.{cut_tail}
 use Rattle.orders.specs.Within.{KeptWithin}
 use Rattle.orders.proofs.BoundStarts.{within_steps}

@@ -1,6 +1,5 @@
 -- What is left to cut from here is what was to be cut at the entry; each cut takes one from the free list.
 use Rattle.std.proofs.Common.{◌≡◌, length}
-use Rattle.table.specs.Held.{held}
 use Rattle.rules.specs.Freeing.{cut_tail}
 use Rattle.orders.specs.Within.{KeptWithin}
 use Rattle.ledger.specs.Ledgers.{books_of}

@@ -1,14 +1,12 @@
 -- The rule by its cases: the segment is not Active, a removal is refused, or the segment is closed.
-use Rattle.std.proofs.Common.{◌≡◌, ℕ, true, false, Ok, Err, sym, refl, ap, ◌∙◌, subst, w64}
+use Rattle.std.proofs.Common.{◌≡◌, Ok, Err, sym, ap, ◌∙◌, w64}
 use Rattle.std.proofs.lemmas.Result.{err_from_is_err_and}
 use Rattle.std.proofs.lemmas.Int.{to_z-of_z}
-use Rattle.segment.specs.declared.state.State.TheVariants as is
 use Rattle.rules.specs.Books.{Books, world, state_of}
-use Rattle.rules.specs.Cleaning.{is_active}
 use Rattle.rules.specs.Stabilizing.{number_of_lsn, blobs_of, remove_blobs, deactivate_state, deactivated_by, deactivated}
 use Rattle.ledger.specs.Ledgers.{books_of}
 use Rattle.upkeep.specs.Worlds.{seen}
-use Rattle.upkeep.proofs.Closes.{active_of, active_placed, idle}
+use Rattle.upkeep.proofs.Closes.{active_of, idle}
 use Rattle.upkeep.proofs.world.World.deactivate.Goals as goal
 
 pub returns-then-not-is_active_at : goal.returns-then-not-is_active_at

@@ -1,5 +1,5 @@
 -- The segment is emptied, and then held back or freed as the rule's cases say.
-use Rattle.std.proofs.Common.{◌≡◌, ◌<◌, ◌≤◌, length, Some, None, sym, refl, ap, ◌∙◌, subst, length-set, w64, SFits, rules}
+use Rattle.std.proofs.Common.{◌≡◌, ◌<◌, ◌≤◌, length, Some, None, sym, ap, ◌∙◌, subst, length-set, w64, SFits, rules}
 use Rattle.std.proofs.lemmas.Int.{to_z-of_z}
 use Rattle.segment.specs.Changes.{emptied}
 use Rattle.segment.specs.declared.state.State.TheVariants as is

@@ -1,5 +1,5 @@
 -- What is held back is reached, and the books keep what they keep when it is freed.
-use Rattle.std.proofs.Common.{◌≡◌, ◌<◌, length, sym, refl, ap, ◌∙◌, subst, w64, SFits, rules}
+use Rattle.std.proofs.Common.{◌≡◌, ◌<◌, length, sym, ap, ◌∙◌, subst, w64, SFits, rules}
 use Rattle.std.proofs.lemmas.Int.{to_z-of_z}
 use Rattle.table.specs.Rows.{remove_row}
 use Rattle.segment.specs.Rows.{freeable_key, by_signed}

@@ -1,5 +1,5 @@
 -- One row released is one step of the rule.
-use Rattle.std.proofs.Common.{◌≡◌, ◌<◌, length, sym, refl, ap, ◌∙◌, subst}
+use Rattle.std.proofs.Common.{◌<◌, length, sym, ap, ◌∙◌, subst}
 use Rattle.rules.specs.Stabilizing.{held_back_by, release_all}
 use Rattle.orders.specs.Share.{Shared}
 use Rattle.orders.proofs.Floors.{freeable_floored}

@@ -1,5 +1,5 @@
 -- Storing the level keeps what the books keep.
-use Rattle.std.proofs.Common.{◌≡◌, false, sym, refl, ap, ◌∙◌, subst, w64, SFits, rules}
+use Rattle.std.proofs.Common.{◌≡◌, false, sym, ap, ◌∙◌, subst, w64, SFits, rules}
 use Rattle.std.proofs.lemmas.Int.{to_z-of_z}
 use Rattle.rules.specs.Books.{Books, with_stabilized}
 use Rattle.rules.specs.Stabilizing.{is_settled, level}
