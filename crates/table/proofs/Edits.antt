@@ -1,5 +1,5 @@
 -- What the place of a key says of a look-up and of an edit. Assumes nothing.
-use Rattle.std.proofs.Common.{◌≡◌, ℕ, ◌<◌, ◌≤◌, List, [], ◌∷◌, length, get_or, set, Some, None, Ok, Err, Option, Result, Ordering, Less, Equal, Greater, refl, ap, arith}
+use Rattle.std.proofs.Common.{◌≡◌, ℕ, ◌<◌, ◌≤◌, List, [], ◌∷◌, length, get_or, set, Some, None, Ok, Err, Option, Result, Ordering, Less, Equal, Greater, refl, ap, true≢false, is_ok, is_some, MatchResult, arith}
 use Rattle.std.specs.List.{insert, remove}
 use Rattle.table.specs.Rows.{by, later, place_by, find_by, put_by, cut_by, towards, place, find, insert_row, remove_row}
 
@@ -27,21 +27,21 @@ none_at at [] i e = (refl, refl)
 none_at at (x ∷ xs) i e = let t = told_at at (x ∷ xs) x (Err i) e in (t.1, t.3)
 
 -- what the place of a key says, by whether a row has it
-module _ {X K : Type 0} (key : X → K) (rank : K → K → Ordering) (rows : List X) (k : K) (i : ℕ) where
-  pub found_at : Ok i ≡ place key rank rows k → (d : X) → find key rank rows k ≡ Some (get_or rows i d)
-  found_at p d = (told_at (towards key rank k) rows d (Ok i) p).1
+module _ {X K : Type 0} (key : X → K) (rank : K → K → Ordering) where
+  pub found_by : (rows : List X) (k : K) (r : Result ℕ ℕ) → r ≡ place key rank rows k → MatchResult r (λ i. (d : X) → find key rank rows k ≡ Some (get_or rows i d)) (λ _. find key rank rows k ≡ None)
+  found_by rows k (Ok i) p = λ d. (told_at (towards key rank k) rows d (Ok i) p).1
+  found_by rows k (Err i) p = (none_at (towards key rank k) rows i p).0
 
-  pub found_none : Err i ≡ place key rank rows k → find key rank rows k ≡ None
-  found_none p = (none_at (towards key rank k) rows i p).0
+  pub there_of : (rows : List X) (k : K) (r : Result ℕ ℕ) → r ≡ place key rank rows k → is_some (find key rank rows k) ≡ is_ok r
+  there_of [] k (Ok i) p = absurd (true≢false (ap is_ok p))
+  there_of (x ∷ xs) k (Ok i) p = ap is_some (found_by (x ∷ xs) k (Ok i) p x)
+  there_of rows k (Err i) p = ap is_some (found_by rows k (Err i) p)
 
-  pub cut_at : (x : X) → Ok i ≡ place key rank rows k → remove_row key rank rows k ≡ remove rows i
-  cut_at x p = (told_at (towards key rank k) rows x (Ok i) p).3
+  pub cut_of : (rows : List X) (k : K) (r : Result ℕ ℕ) → r ≡ place key rank rows k → MatchResult r (λ i. remove_row key rank rows k ≡ remove rows i) (λ _. remove_row key rank rows k ≡ rows)
+  cut_of [] k (Ok i) p = absurd (true≢false (ap is_ok p))
+  cut_of (x ∷ xs) k (Ok i) p = (told_at (towards key rank k) (x ∷ xs) x (Ok i) p).3
+  cut_of rows k (Err i) p = (none_at (towards key rank k) rows i p).1
 
-  pub cut_none : Err i ≡ place key rank rows k → remove_row key rank rows k ≡ rows
-  cut_none p = (none_at (towards key rank k) rows i p).1
-
-  pub put_over : Ok i ≡ place key rank rows k → (row : X) → key row ≡ k → insert_row key rank rows row ≡ set rows i row
-  put_over p row e = let q : Ok i ≡ place key rank rows (key row) = rw e p in (told_at (towards key rank (key row)) rows row (Ok i) q).2
-
-  pub put_new : Err i ≡ place key rank rows k → (row : X) → key row ≡ k → insert_row key rank rows row ≡ insert rows i row
-  put_new p row e = let q : Err i ≡ place key rank rows (key row) = rw e p in (told_at (towards key rank (key row)) rows row (Err i) q).2
+  pub put_of : (rows : List X) (k : K) (r : Result ℕ ℕ) → r ≡ place key rank rows k → MatchResult r (λ i. (row : X) → key row ≡ k → insert_row key rank rows row ≡ set rows i row) (λ i. (row : X) → key row ≡ k → insert_row key rank rows row ≡ insert rows i row)
+  put_of rows k (Ok i) p = λ row e. let q : Ok i ≡ place key rank rows (key row) = rw e p in (told_at (towards key rank (key row)) rows row (Ok i) q).2
+  put_of rows k (Err i) p = λ row e. let q : Err i ≡ place key rank rows (key row) = rw e p in (told_at (towards key rank (key row)) rows row (Err i) q).2

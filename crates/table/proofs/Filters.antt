@@ -1,5 +1,5 @@
 -- What a test keeps of rows. A test that fails from some row on keeps the rows before it, so a range is two such cuts. Assumes nothing.
-use Rattle.std.proofs.Common.{◌≡◌, ℕ, zero, suc, Bool, true, false, cond, not, ◌&&◌, List, [], ◌∷◌, length, take, drop, Some, None, filter, Option, Ordering, Less, Equal, Greater, sym, refl, ap, ◌∙◌, true≢false, arith}
+use Rattle.std.proofs.Common.{◌≡◌, ℕ, zero, suc, Bool, true, false, cond, not, ◌&&◌, List, [], ◌∷◌, ◌++◌, ◌≤◌, length, take, drop, Some, None, filter, Option, Ordering, Less, Equal, Greater, sym, refl, ap, ◌∙◌, true≢false, arith}
 use Rattle.std.specs.Ordering.{is_lt}
 use Rattle.std.specs.List.{ContainsAt as Has}
 use Rattle.std.proofs.lemmas.Bool.{and_parts, and_from}
@@ -76,6 +76,14 @@ module _ {X : Type 0} where
   every_drop q (suc n) [] h = refl
   every_drop q (suc n) (x ∷ xs) h = every_drop q n xs (and_parts (q x) (every q xs) h).1
 
+  every_outside : (q : X → Bool) (s e : ℕ) (xs : List X) → s ≤ e → every q xs ≡ true → every q (take s xs ++ drop e xs) ≡ true
+  every_outside q zero e xs l h = every_drop q e xs h
+  every_outside q (suc s) zero xs l h = absurd (omega (arith, l))
+  every_outside q (suc s) (suc e) [] l h = refl
+  every_outside q (suc s) (suc e) (x ∷ xs) l h =
+      let parts = and_parts (q x) (every q xs) h in
+      and_from (q x) (every q (take s xs ++ drop e xs)) parts.0 (every_outside q s e xs (omega (arith, l)) parts.1)
+
 module _ {X K : Type 0} (key : X → K) {rank : K → K → Ordering} (laws : Lawful rank) where
   pub ascending_kept : (p : X → Bool) (rows : List X) → ascending key rank rows ≡ true → ascending key rank (filter p rows) ≡ true
   ascending_kept p [] up = refl
@@ -90,6 +98,14 @@ module _ {X K : Type 0} (key : X → K) {rank : K → K → Ordering} (laws : La
   ascending_drop zero (x ∷ xs) up = up
   ascending_drop (suc n) [] up = refl
   ascending_drop (suc n) (x ∷ xs) up = ascending_drop n xs (tail_up key laws x xs up)
+
+  -- the rows before one place and behind another
+  pub ascending_outside : (s e : ℕ) (rows : List X) → s ≤ e → ascending key rank rows ≡ true → ascending key rank (take s rows ++ drop e rows) ≡ true
+  ascending_outside zero e rows l up = ascending_drop e rows up
+  ascending_outside (suc s) zero rows l up = absurd (omega (arith, l))
+  ascending_outside (suc s) (suc e) [] l up = refl
+  ascending_outside (suc s) (suc e) (x ∷ xs) l up =
+      and_from _ _ (every_outside (λ y. is_lt (rank (key x) (key y))) s e xs (omega (arith, l)) (and_parts (every (λ y. is_lt (rank (key x) (key y))) xs) (ascending key rank xs) up).0) (ascending_outside s e xs (omega (arith, l)) (tail_up key laws x xs up))
 
   -- a look-up among the rows that a test of the key keeps
   pub find_kept : (t : K → Bool) (rows : List X) (k : K) → ascending key rank rows ≡ true → find key rank (filter (λ x. t (key x)) rows) k ≡ cond (t k) (find key rank rows k) None

@@ -3,7 +3,6 @@ pub mod Places
 pub mod Ends
 pub mod Edits
 pub mod Laws
-pub mod Lent
 pub mod Filters
 pub mod Between
 pub mod Pairs

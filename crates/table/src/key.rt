@@ -21,13 +21,7 @@ impl Key for u64 {
     ghost lawful = { unsigned_lawful };
 
     fn compare(self, other: u64) -> Ordering {
-        if self < other {
-            Ordering::Less
-        } else if self == other {
-            Ordering::Equal
-        } else {
-            Ordering::Greater
-        }
+        self.cmp(&other)
     }
 }
 
@@ -37,13 +31,7 @@ impl Key for i64 {
     ghost lawful = { signed_lawful };
 
     fn compare(self, other: i64) -> Ordering {
-        if self < other {
-            Ordering::Less
-        } else if other < self {
-            Ordering::Greater
-        } else {
-            Ordering::Equal
-        }
+        self.cmp(&other)
     }
 }
 
@@ -54,10 +42,8 @@ impl<A: Key, B: Key> Key for (A, B) {
     ghost lawful = { lexical_lawful A.Key.lawful B.Key.lawful };
 
     fn compare(self, other: (A, B)) -> Ordering {
-        match self.0.compare(other.0) {
-            Ordering::Less => Ordering::Less,
-            Ordering::Equal => self.1.compare(other.1),
-            Ordering::Greater => Ordering::Greater,
-        }
+        self.0
+            .compare(other.0)
+            .then_with(|| self.1.compare(other.1))
     }
 }

@@ -6,7 +6,6 @@ ghost use Rattle.table.specs.Ranges.{count_below};
 ghost use Rattle.table.specs.Rows.{ascending, place, find, insert_row, remove_row, entered_in, laid};
 
 use crate::{Full, Key, Row};
-use std::cmp::Ordering;
 
 // The place of the row with this key, or the place where it would stand.
 // The clauses after `within` say what that place means for a look-up and for an edit.
@@ -22,17 +21,7 @@ pub fn search<R: Row>(rows: &[R], key: R::Key) -> Result<usize, usize>
     ensures cut_ascends { ascending R.Row.keyed R.Key.Key.rank (remove_row R.Row.keyed R.Key.Key.rank rows.now key) ≡ true }
     ensures put_ascends { (row : R) → R.Row.keyed row ≡ key → ascending R.Row.keyed R.Key.Key.rank (insert_row R.Row.keyed R.Key.Key.rank rows.now row) ≡ true }
 {
-    let mut low = 0;
-    let mut high = rows.len();
-    while low < high {
-        let mid = low + (high - low) / 2;
-        match rows[mid].key().compare(key) {
-            Ordering::Less => low = mid + 1,
-            Ordering::Equal => return Ok(mid),
-            Ordering::Greater => high = mid,
-        }
-    }
-    Err(low)
+    rows.binary_search_by(|row| row.key().compare(key))
 }
 
 // Writes over the row at i.
@@ -84,7 +73,7 @@ pub fn insert_in<R: Row>(rows: &mut [R], len: usize, row: R) -> Result<usize, Fu
     ensures after { (result, rows.new) ≡ entered_in R.Row.keyed R.Key.Key.rank rows.old len row }
     ensures cases { MatchResult result (λ n. (n ≤ length rows.old) × (take n rows.new ≡ insert_row R.Row.keyed R.Key.Key.rank (take len rows.old) row)) (λ _. rows.new ≡ rows.old) }
 {
-    match search(rows.split_at(len).0, row.key()) {
+    match search(&rows[..len], row.key()) {
         Ok(i) => {
             write_at(rows, len, i, row);
             Ok(len)
@@ -109,8 +98,6 @@ pub fn remove_in<R: Row>(rows: &mut [R], len: usize, key: R::Key) -> Option<R>
     ensures front { take (len - length (option_to_list result)) rows.new ≡ remove_row R.Row.keyed R.Key.Key.rank (take len rows.old) key }
     ensures fewer { length (option_to_list result) ≤ len }
 {
-    match search(rows.split_at(len).0, key) {
-        Ok(i) => Some(close_at(rows, len, i)),
-        Err(_) => None,
-    }
+    let i = search(&rows[..len], key).ok()?;
+    Some(close_at(rows, len, i))
 }
