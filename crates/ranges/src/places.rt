@@ -11,25 +11,7 @@ pub fn count_below<R: Row>(rows: &[R], key: R::Key) -> usize
     ensures value { result ≡ count_below R.Row.keyed R.Key.Key.rank rows.now key }
     ensures within { result ≤ length rows.now }
 {
-    match search(rows, key) {
-        Ok(i) => i,
-        Err(i) => i,
-    }
-}
-
-// The bounds of a range, where the first is known.
-fn span<R: Row>(rows: &[R], start: usize, from: R::Key, until: R::Key) -> (usize, usize)
-    requires order { ascending R.Row.keyed R.Key.Key.rank rows.now ≡ true }
-    requires within { start ≤ length rows.now }
-    requires start { start ≡ count_below R.Row.keyed R.Key.Key.rank rows.now from }
-    ensures value { result ≡ (count_below R.Row.keyed R.Key.Key.rank rows.now from, count_below R.Row.keyed R.Key.Key.rank rows.now from + length (between R.Row.keyed R.Key.Key.rank rows.now from until)) }
-    ensures within { (result.0 ≤ result.1) × (result.1 ≤ length rows.now) }
-    ensures part { take (result.1 - result.0) (drop result.0 rows.now) ≡ between R.Row.keyed R.Key.Key.rank rows.now from until }
-    ensures rest { take result.0 rows.now ++ drop result.1 rows.now ≡ without_between R.Row.keyed R.Key.Key.rank rows.now from until }
-    ensures rest_ascends { ascending R.Row.keyed R.Key.Key.rank (without_between R.Row.keyed R.Key.Key.rank rows.now from until) ≡ true }
-{
-    let count = count_below(&rows[start..rows.len()], until);
-    (start, start + count)
+    search(rows, key).unwrap_or_else(|i| i)
 }
 
 // The place of the first row whose key is not below `from`, and that behind the last one below `until`.
@@ -42,5 +24,7 @@ pub fn bounds<R: Row>(rows: &[R], from: R::Key, until: R::Key) -> (usize, usize)
     ensures rest { take result.0 rows.now ++ drop result.1 rows.now ≡ without_between R.Row.keyed R.Key.Key.rank rows.now from until }
     ensures rest_ascends { ascending R.Row.keyed R.Key.Key.rank (without_between R.Row.keyed R.Key.Key.rank rows.now from until) ≡ true }
 {
-    span(rows, count_below(rows, from), from, until)
+    let start = count_below(rows, from);
+    let count = count_below(&rows[start..], until);
+    (start, start + count)
 }
