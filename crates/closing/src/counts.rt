@@ -22,16 +22,14 @@ fn left_in(rows: &[PageRow]) -> u64
     count
 }
 
-pub fn page_count(pages: &Table<PageRow>, n: SegmentId) -> u64
-    requires order { ascending page_key by_page (held pages.now) ≡ true }
+pub fn page_count(pages: &Table<PageRow, MAX_PAGE_ROWS>, n: SegmentId) -> u64
     requires small { n < 256 }
     ensures { result ≡ page_count n (held pages.now) }
 {
     between(pages, (n, 0), (n + 1, 0)).len() as u64
 }
 
-pub fn left_count(pages: &Table<PageRow>, n: SegmentId) -> u64
-    requires order { ascending page_key by_page (held pages.now) ≡ true }
+pub fn left_count(pages: &Table<PageRow, MAX_PAGE_ROWS>, n: SegmentId) -> u64
     requires small { n < 256 }
     ensures { result ≡ left_count n (held pages.now) }
 {

@@ -12,22 +12,16 @@ use table::{Key, Row, Table};
 
 // Writes over the row at place i by one with the same key.
 fn write_at<R: Row>(table: &mut Table<R>, i: usize, row: R)
-    requires order { ascending R.Row.keyed R.Key.Key.rank (held table.old) ≡ true }
     requires there { i < length (held table.old) }
     requires same { R.Row.keyed (slice_index_or (held table.old) i row) ≡ R.Row.keyed row }
-    ensures order { ascending R.Row.keyed R.Key.Key.rank (held table.new) ≡ true }
-    ensures limit { limit_of table.new ≡ limit_of table.old }
     ensures rows { held table.new ≡ slice_set (held table.old) i row }
 {
     let _ = table.insert(row);
 }
 
 // The page at place i is queued, unless it has left.
-fn queue_at(pages: &mut Table<PageRow>, i: usize)
-    requires order { ascending page_key by_page (held pages.old) ≡ true }
+fn queue_at(pages: &mut Table<PageRow, MAX_PAGE_ROWS>, i: usize)
     requires there { i < length (held pages.old) }
-    ensures order { ascending page_key by_page (held pages.new) ≡ true }
-    ensures limit { limit_of pages.new ≡ limit_of pages.old }
     ensures rows { (d : PageRow) → held pages.new ≡ slice_set (held pages.old) i (queued_if (slice_index_or (held pages.old) i d)) }
 {
     let row = pages.rows()[i];
@@ -44,11 +38,8 @@ fn queue_at(pages: &mut Table<PageRow>, i: usize)
 }
 
 // The pages of segment n that have not left are queued.
-pub fn queue_all(pages: &mut Table<PageRow>, n: SegmentId)
-    requires order { ascending page_key by_page (held pages.old) ≡ true }
+pub fn queue_all(pages: &mut Table<PageRow, MAX_PAGE_ROWS>, n: SegmentId)
     requires small { n < 256 }
-    ensures order { ascending page_key by_page (held pages.new) ≡ true }
-    ensures limit { limit_of pages.new ≡ limit_of pages.old }
     ensures rows { held pages.new ≡ all_queued n (held pages.old) }
 {
     let (start, end) = bounds(pages.rows(), (n, 0), (n + 1, 0));

@@ -21,8 +21,7 @@ use segment::{CacheInfo, Lsn, PageId, PageRow, SegmentId, State};
 use table::Table;
 
 // Whether the page has a row in segment n, and has not left.
-fn is_lying(pages: &Table<PageRow>, n: SegmentId, page: PageId) -> bool
-    requires { ascending page_key by_page (held pages.now) ≡ true }
+fn is_lying(pages: &Table<PageRow, MAX_PAGE_ROWS>, n: SegmentId, page: PageId) -> bool
     ensures { result ≡ is_lying (page_row (held pages.now) n page) }
 {
     match pages.get((n, page)) {

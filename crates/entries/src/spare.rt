@@ -13,7 +13,7 @@ mod filling;
 
 #[derive(Drop)]
 pub struct SpareBlobs {
-    pub rows: Table<BlobRow>,
+    pub rows: Table<BlobRow, MAX_BLOB_ROWS>,
     ghost up: { ascending blob_key by_signed (held rows) ≡ true },
     // Blob pointers are signed numbers of 64 bits.
     ghost floor: { floored blob_key int_cmp (held rows) least_signed ≡ true },

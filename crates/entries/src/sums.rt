@@ -29,7 +29,7 @@ impl Row for SumRow {
 
 #[derive(Drop)]
 pub struct Sums {
-    pub rows: Table<SumRow>,
+    pub rows: Table<SumRow, MAX_OLDS>,
     ghost up: { ascending sum_key nat_cmp (held rows) ≡ true },
     ghost limit: { limit_of rows ≡ 256 },
 }

@@ -14,10 +14,7 @@ use segment::{Lsn, PageId, PageRow, SegmentId};
 use table::Table;
 
 // Marks the page as left, if it has a row in the segment.
-fn mark_left(pages: &mut Table<PageRow>, n: SegmentId, page: PageId)
-    requires { ascending page_key by_page (held pages.old) ≡ true }
-    ensures order { ascending page_key by_page (held pages.new) ≡ true }
-    ensures limit { limit_of pages.new ≡ limit_of pages.old }
+fn mark_left(pages: &mut Table<PageRow, MAX_PAGE_ROWS>, n: SegmentId, page: PageId)
     ensures rows { held pages.new ≡ marked (held pages.old) (page_row (held pages.old) n page) }
 {
     if let Some(row) = pages.get((n, page)) {
@@ -25,10 +22,7 @@ fn mark_left(pages: &mut Table<PageRow>, n: SegmentId, page: PageId)
     }
 }
 
-fn mark_if(pages: &mut Table<PageRow>, leaves: bool, n: SegmentId, page: PageId)
-    requires { ascending page_key by_page (held pages.old) ≡ true }
-    ensures order { ascending page_key by_page (held pages.new) ≡ true }
-    ensures limit { limit_of pages.new ≡ limit_of pages.old }
+fn mark_if(pages: &mut Table<PageRow, MAX_PAGE_ROWS>, leaves: bool, n: SegmentId, page: PageId)
     ensures rows { held pages.new ≡ (if leaves then marked (held pages.old) (page_row (held pages.old) n page) else held pages.old) }
 {
     if leaves {

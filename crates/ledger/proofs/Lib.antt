@@ -1,5 +1,5 @@
 pub mod Entering
-pub mod Reading
+pub mod SegmentStates
 pub mod Walks
 pub mod Handing
 pub mod Queueing

@@ -1,3 +1,4 @@
+pub mod States
 pub mod Ledgers
 pub mod Verdicts
 pub mod Settling

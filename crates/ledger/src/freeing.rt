@@ -1,32 +1,29 @@
 // Freeing a segment, and lowering the tip over the free ones at the end.
 ghost use Rattle.std.specs.Prelude.{◌≡◌, ◌-◌, ◌*◌, ◌^◌, ◌<◌, ◌≤◌, true, length, Ok, Err, ◌≢◌};
 ghost use Rattle.host.specs.Meaning.{code_of, layer_of};
-ghost use Rattle.table.specs.Held.{held, limit_of};
-ghost use Rattle.table.specs.Rows.{ascending};
-ghost use Rattle.segment.specs.Rows.{ordering_key};
+ghost use Rattle.table.specs.Held.{held};
 ghost use Rattle.rules.specs.Books.{with_faults};
 ghost use Rattle.rules.specs.Freeing.{put_free, unordered, can_cut, lowered, remembered};
 ghost use Rattle.ledger.specs.Ledgers.{books_of};
-ghost use Rattle.std.specs.Ordering.{int_cmp};
 
-use crate::ledger::Ledger;
+use crate::ledger::{Ledger, MAX_SEGMENTS};
 use crate::room::put;
 use host::HostFault;
 use ranges::remove_between;
-use segment::{FaultRow, LogOffset, OrderingRow, SegmentId, State};
+use segment::{FaultRow, Free, LogOffset, OrderingRow, SegmentId, State};
 use table::Table;
 
 // The row of the LSN that a Free segment had goes.
-fn unorder(ordering: &mut Table<OrderingRow>, state: &State)
-    requires { ascending ordering_key int_cmp (held ordering.old) ≡ true }
-    ensures order { ascending ordering_key int_cmp (held ordering.new) ≡ true }
-    ensures limit { limit_of ordering.new ≡ limit_of ordering.old }
-    ensures rows { held ordering.new ≡ unordered state.now (held ordering.old) }
+fn unorder(ordering: &mut Table<OrderingRow, MAX_SEGMENTS>, state: &State)
+    ensures { held ordering.new ≡ unordered state.now (held ordering.old) }
 {
-    if let State::Free(free) = state {
-        if let Some(lsn) = free.previous_lsn {
-            ordering.remove(lsn);
-        }
+    if let State::Free(
+        Free {
+            previous_lsn: Some(lsn),
+        },
+    ) = state
+    {
+        ordering.remove(*lsn);
     }
 }
 
@@ -51,7 +48,7 @@ impl Ledger {
         ensures { books_of self.new ≡ put_free n (books_of self.old) }
     {
         let offset = n * self.segment_size;
-        unorder(&mut self.ordering, &self.segments[n as usize].state);
+        unorder(&mut self.ordering, self.segments.state(n));
         remove_between(&mut self.pages, (n, 0), (n + 1, 0));
         self.listed.remove(offset);
         put(&mut self.free, offset);

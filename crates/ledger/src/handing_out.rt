@@ -1,9 +1,8 @@
 // Handing out a segment to the log, and naming the page to rewrite next.
 ghost use Rattle.std.specs.Prelude.{◌≡◌, ◌+◌, ◌*◌, ◌^◌, ◌<◌, ◌≤◌, true, false, [], length, pos, ◌≤ℤ◌, Ok, Err, vec_capacity, unsigned_abs};
-ghost use Rattle.table.specs.Held.{held, limit_of};
-ghost use Rattle.table.specs.Rows.{ascending, own_key, first_of};
+ghost use Rattle.table.specs.Held.{held};
+ghost use Rattle.table.specs.Rows.{first_of};
 ghost use Rattle.segment.specs.Changes.{opened};
-ghost use Rattle.segment.specs.Rows.{page_key, by_page};
 ghost use Rattle.segment.specs.declared.state.State.TheVariants as is;
 ghost use Rattle.rules.specs.HandingOut.{entered, rest_of, risen, handed_out, offered, next_at, first_listed, popped_from, popped};
 ghost use Rattle.rules.specs.Books.{segment_of};
@@ -11,13 +10,13 @@ ghost use Rattle.rules.specs.Links.{out_of_range};
 ghost use Rattle.rules.specs.Pages.{queue_of};
 ghost use Rattle.orders.specs.Share.{Shared};
 ghost use Rattle.orders.specs.Within.{KeptWithin};
-ghost use Rattle.ledger.specs.Ledgers.{books_of, states};
+ghost use Rattle.ledger.specs.Ledgers.{books_of};
+ghost use Rattle.ledger.specs.States.{states_of};
 ghost use Rattle.ledger.specs.Settling.{settled};
-ghost use Rattle.std.specs.Ordering.{nat_cmp};
 
-use crate::ledger::Ledger;
+use crate::ledger::{Ledger, MAX_PAGE_ROWS, MAX_SEGMENTS};
 use crate::room::put;
-use crate::states::write;
+use crate::segments::Segments;
 use host::HostFault;
 use ranges::between;
 use rules::Refusal;
@@ -33,11 +32,8 @@ fn position(lsn: Lsn) -> u64
 }
 
 // Takes the least offset from the free list; the tip rises by a segment where there is none. Answers the tip.
-fn leave(free: &mut Table<LogOffset>, tip: LogOffset, segment_size: u64) -> LogOffset
-    requires order { ascending own_key nat_cmp (held free.old) ≡ true }
-    requires fits { tip + segment_size < 2 ^ 64 }
-    ensures order { ascending own_key nat_cmp (held free.new) ≡ true }
-    ensures limit { limit_of free.new ≡ limit_of free.old }
+fn leave(free: &mut Table<LogOffset, MAX_SEGMENTS>, tip: LogOffset, segment_size: u64) -> LogOffset
+    requires { tip + segment_size < 2 ^ 64 }
     ensures rows { held free.new ≡ rest_of (held free.old) }
     ensures tip { result ≡ risen (held free.old) tip segment_size }
 {
@@ -51,26 +47,24 @@ fn leave(free: &mut Table<LogOffset>, tip: LogOffset, segment_size: u64) -> LogO
 }
 
 // Segment n becomes Active; one that was not reached before is reached.
-fn enter(segments: &mut Vec<Segment>, n: usize, lsn: Lsn)
-    requires { length (entered n (is.Active (opened lsn)) (states segments.old.items)) ≤ vec_capacity segments.old }
-    ensures states { states segments.new.items ≡ entered n (is.Active (opened lsn)) (states segments.old.items) }
-    ensures cap { vec_capacity segments.new ≡ vec_capacity segments.old }
+fn enter(segments: &mut Segments, n: SegmentId, lsn: Lsn)
+    requires { length (entered n (is.Active (opened lsn)) (states_of segments.old)) ≤ 256 }
+    ensures { states_of segments.new ≡ entered n (is.Active (opened lsn)) (states_of segments.old) }
 {
     let free = Free { previous_lsn: None };
     let segment = Segment {
         state: State::Active(free.activate(lsn)),
     };
-    if n < segments.len() {
-        write(segments, n, segment);
+    if n < segments.len() as u64 {
+        segments.write(n, segment);
     } else {
-        segments.push_reserved(segment);
+        segments.push(segment);
     }
 }
 
 // The first queued page of segment n.
-fn first_queued(pages: &Table<PageRow>, n: SegmentId) -> Option<PageRow>
-    requires order { ascending page_key by_page (held pages.now) ≡ true }
-    requires small { n < 2 ^ 63 }
+fn first_queued(pages: &Table<PageRow, MAX_PAGE_ROWS>, n: SegmentId) -> Option<PageRow>
+    requires { n < 2 ^ 63 }
     ensures { result ≡ first_of (queue_of n (held pages.now)) }
 {
     for row in between(pages, (n, 0), (n + 1, 0)) {
@@ -129,7 +123,7 @@ impl Ledger {
         requires room { length (handed_out lsn offset (books_of self.old)).ordering ≤ 256 }
         ensures { books_of self.new ≡ handed_out lsn offset (books_of self.old) }
     {
-        let n = self.segment_id(offset) as usize;
+        let n = self.segment_id(offset);
         enter(&mut self.segments, n, lsn);
         self.tip = leave(&mut self.free, self.tip, self.segment_size);
         put(&mut self.ordering, OrderingRow { lsn, offset });
@@ -185,9 +179,7 @@ impl Ledger {
         requires { KeptWithin (books_of self.old) }
         ensures { (result, books_of self.new) ≡ popped (books_of self.old) }
     {
-        match self.first_listed() {
-            None => None,
-            Some(offset) => self.pop_from(offset),
-        }
+        let offset = self.first_listed()?;
+        self.pop_from(offset)
     }
 }

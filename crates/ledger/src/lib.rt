@@ -5,10 +5,11 @@ mod freeing;
 mod handing_out;
 mod ledger;
 mod linking;
+mod lookup;
 mod making;
 mod room;
-mod states;
+mod segments;
 
-pub use ledger::Ledger;
+pub use ledger::{Ledger, MAX_BLOB_ROWS, MAX_PAGE_ROWS, MAX_SEGMENTS};
 pub use room::put;
-pub use states::{take_out, write};
+pub use segments::Segments;

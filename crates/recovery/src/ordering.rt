@@ -16,14 +16,11 @@ use table::Table;
 
 // A segment at this offset enters the ordering if it is Active, unless one with its LSN is there.
 fn order_state(
-    ordering: &mut Table<OrderingRow>,
+    ordering: &mut Table<OrderingRow, MAX_SEGMENTS>,
     state: &State,
     offset: LogOffset,
 ) -> Result<(), Refusal>
-    requires order { ascending ordering_key int_cmp (held ordering.old) ≡ true }
     requires room { length (held ordering.old) < limit_of ordering.old }
-    ensures order { ascending ordering_key int_cmp (held ordering.new) ≡ true }
-    ensures limit { limit_of ordering.new ≡ limit_of ordering.old }
     ensures more { length (held ordering.new) ≤ length (held ordering.old) + 1 }
     ensures rows { outcome result (held ordering.new) ≡ order_state offset state.now (held ordering.old) }
 {
@@ -40,15 +37,12 @@ fn order_state(
 
 // All segments enter in turn, those that are Active.
 fn order_segments(
-    ordering: &mut Table<OrderingRow>,
+    ordering: &mut Table<OrderingRow, MAX_SEGMENTS>,
     segments: &[Segment],
     segment_size: u64,
 ) -> Result<(), Refusal>
-    requires order { ascending ordering_key int_cmp (held ordering.old) ≡ true }
     requires room { length (held ordering.old) + length segments.now ≤ limit_of ordering.old }
     requires fits { length segments.now * segment_size < 2 ^ 64 }
-    ensures order { ascending ordering_key int_cmp (held ordering.new) ≡ true }
-    ensures limit { limit_of ordering.new ≡ limit_of ordering.old }
     ensures rows { outcome result (held ordering.new) ≡ order_all segment_size 0 (states segments.now) (held ordering.old) }
 {
     for n in 0..segments.len() {

@@ -81,12 +81,11 @@ impl SpareBlobs {
     // The blob rows as they would be after the replacement of the old entries.
     pub fn fill(
         &mut self,
-        blobs: &Table<BlobRow>,
+        blobs: &Table<BlobRow, MAX_BLOB_ROWS>,
         n: SegmentId,
         keep: Option<BlobPointer>,
         olds: &[CacheInfo],
     )
-        requires order { ascending blob_key by_signed (held blobs.now) ≡ true }
         requires room { length (held blobs.now) ≤ 256 }
         requires few { length olds.now ≤ 256 }
         ensures { held self.new.rows ≡ given_up n keep olds.now (held blobs.now) }

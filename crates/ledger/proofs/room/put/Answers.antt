@@ -3,8 +3,4 @@ use Rattle.ledger.proofs.Entering.{entered}
 use Rattle.ledger.proofs.room.put.Goals as goal
 
 pub returns : goal.returns
-returns g c = record {
-  order = c.insert.ensures.order;
-  limit = c.insert.ensures.limit;
-  rows = entered g.R.Row.keyed g.R.Key.Key.lawful _ _ _ _ c.insert.result c.requires.room c.insert.ensures.cases;
-}
+returns g c = entered g.R.Row.keyed g.R.Key.Key.lawful _ _ _ _ c.insert.result c.requires c.insert.ensures.cases

@@ -7,4 +7,4 @@ use Rattle.ledger.proofs.ledger.Ledger.pop_page.Goals as goal
 pub pop_from-requires : goal.pop_from-requires
 pop_from-requires c =
     let b = books_of c.args.self.now in
-    record { size = (numbers b c.requires.1).positive; small = first_reached b c.in-Some.offset (sym c.first_listed.ensures ∙ c.in-Some.is) c.requires.1 }
+    record { size = (numbers b c.requires.1).positive; small = first_reached b c.in_ok-offset.offset (sym c.first_listed.ensures ∙ c.in_ok-offset.was) c.requires.1 }

@@ -1,4 +1,4 @@
--- The states of a ledger's segments, read one by one and written one by one.
+-- The states of a ledger's segments, written one by one.
 use Rattle.std.proofs.Common.{◌≡◌, ℕ, ◌<◌, ◌≤◌, cond, List, [], ◌∷◌, ◌++◌, length, get_or, set, vec_items, vec_len, Vec, sym, ap, ◌∙◌, subst, arith, length-set}
 use Rattle.std.specs.declared.alloc.Global.{Global}
 use Rattle.std.proofs.lemmas.List.{get_or-map, length-map, get_or_past, set-set}
@@ -7,21 +7,6 @@ use Rattle.segment.specs.declared.segment.Segment.{Segment}
 use Rattle.segment.specs.declared.state.State.{State}
 use Rattle.rules.specs.Books.{unused}
 use Rattle.rules.specs.HandingOut.{entered}
-use Rattle.ledger.specs.Ledgers.{states}
-
--- there are as many states as segments
-pub as_many : (v : Vec Segment Global) → length (states (vec_items v)) ≡ vec_len v
-as_many v = length-map (vec_items v) (λ s. s.state) ∙ sym v.ok.0
-
-pub reached : (v : Vec Segment Global) (n : ℕ) → n < length (states (vec_items v)) → n < vec_len v
-reached v n h = subst (λ k. n < k) (as_many v) h
-
-pub state_at : (v : Vec Segment Global) (n : ℕ) (s : Segment) → n < vec_len v → s ≡ get_or (vec_items v) n s → s.state ≡ get_or (states (vec_items v)) n unused
-state_at v n s h e = ap (λ x. x.state) e ∙ sym (get_or-map (λ x. x.state) (vec_items v) n s unused (let l = v.ok.0 in omega arith))
-
--- past the segments reached, the state is that of one never used
-pub past : (v : Vec Segment Global) (n : ℕ) → vec_len v ≤ n → (length (states (vec_items v)) ≤ n) × (get_or (states (vec_items v)) n unused ≡ unused)
-past v n h = let l = subst (λ k. k ≤ n) (sym (as_many v)) h in (l, get_or_past (states (vec_items v)) n unused l)
 
 -- a segment that is moved out, changed and written back
 pub rewritten : (xs out after : List State) (i : ℕ) (s z : State) → out ≡ set xs i z → after ≡ set out i s → after ≡ set xs i s

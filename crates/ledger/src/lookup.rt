@@ -1,0 +1,25 @@
+// Segments read by their numbers.
+ghost use Rattle.std.specs.Prelude.{◌≡◌, ◌/◌, ◌<◌, ◌≤◌, length, MatchOption};
+ghost use Rattle.rules.specs.Books.{state_of, segment_of, unused};
+ghost use Rattle.ledger.specs.Ledgers.{books_of};
+
+use crate::ledger::Ledger;
+use segment::{LogOffset, SegmentId, State};
+
+impl Ledger {
+    // The number of the segment that an offset lies in.
+    pub fn segment_id(&self, offset: LogOffset) -> SegmentId
+        requires { 0 < self.now.segment_size }
+        ensures { result ≡ segment_of (books_of self.now) offset }
+    {
+        offset / self.segment_size
+    }
+
+    // The state of segment n, if it is reached.
+    pub fn state(&self, n: SegmentId) -> Option<&State>
+        ensures { MatchOption result ((length (books_of self.now).segments ≤ n) × (state_of (books_of self.now) n ≡ unused)) (λ s. (n < length (books_of self.now).segments) × (s.now ≡ state_of (books_of self.now) n)) }
+    {
+        let segment = self.segments.get(n)?;
+        Some(&segment.state)
+    }
+}
