@@ -1,23 +1,14 @@
 -- The range of signed numbers above one and up to another, as a range that begins and ends one later.
-use Rattle.std.proofs.Common.{◌≡◌, ◌≤◌, not, ◌&&◌, List, length, ℤ, pos, ◌+ℤ◌, vec_items, Ordering, ap, arith}
+use Rattle.std.proofs.Common.{◌≡◌, ◌≤◌, not, ◌&&◌, List, length, ℤ, pos, ◌+ℤ◌, Ordering, ap, arith}
 use lib.Signed.{lt_z, le_z}
 use Rattle.std.specs.Ordering.{is_lt, int_cmp}
-use Rattle.std.proofs.lemmas.List.{length-take}
 use Rattle.std.proofs.lemmas.Int.{ints}
-use Rattle.table.specs.Held.{held, limit_of}
 use Rattle.table.specs.Ranges.{inside, between}
-use Rattle.table.specs.declared.key.Key.{Ghosts as KeyGhosts}
-use Rattle.table.specs.declared.owner.Table.{Table}
-use Rattle.table.specs.declared.row.Row.{Ghosts as RowGhosts}
 use Rattle.table.proofs.Filters.{kept_same}
 use Rattle.segment.specs.Rows.{ordering_key}
 use Rattle.segment.specs.declared.rows.OrderingRow.{OrderingRow}
 use Rattle.rules.specs.Stabilizing.{ripe}
 use Rattle.orders.proofs.Every.{kept_most}
-
--- a table holds at most as many rows as it may
-pub held_most : {X K : Type 0} {r : RowGhosts X K} {k : KeyGhosts K} (t : Table X K r k) → length (held t) ≤ limit_of t
-held_most t = let m = length-take t.len (vec_items t.places) in omega (arith, t.below)
 
 -- a range has at most as many rows as there are
 pub between_most : {X K : Type 0} (key : X → K) (rank : K → K → Ordering) (rows : List X) (from until : K) (part : List X) → part ≡ between key rank rows from until → length part ≤ length rows

@@ -9,7 +9,7 @@ use Rattle.segment.specs.declared.state.State.{State}
 use Rattle.segment.specs.declared.state.State.TheVariants as is
 use Rattle.rules.specs.Books.{Books, unused}
 use Rattle.rules.specs.Stabilizing.{free_below_tip, inactive_at, inactive_count, is_inactive, first_some, last_inactive, much_is_free, drain_found}
-use Rattle.ledger.specs.Ledgers.{states}
+use Rattle.ledger.specs.States.{states}
 use Rattle.closing.specs.Shares.{number_from, Drains}
 
 pub state_there : (xs : List Segment) (i : ℕ) (d : Segment) → i < length xs → get_or (states xs) i unused ≡ (get_or xs i d).state

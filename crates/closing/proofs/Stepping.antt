@@ -8,7 +8,7 @@ use Rattle.table.specs.Ranges.{between, without_between}
 use Rattle.table.specs.declared.owner.Full.{Full}
 use Rattle.table.proofs.Orders.{rank_same, every_at}
 use Rattle.table.proofs.Places.{place_at}
-use Rattle.table.proofs.Edits.{found_at, put_over}
+use Rattle.table.proofs.Edits.{found_by, put_of}
 use Rattle.table.proofs.Pairs.{unsigned_range, unsigned_without}
 use Rattle.segment.specs.Rows.{page_key, by_page}
 use Rattle.segment.specs.declared.rows.PageRow.{PageRow}
@@ -91,8 +91,8 @@ module _ {X K : Type 0} (key : X → K) {rank : K → K → Ordering} (laws : La
       never o a b = let z : ◌≡◌ {A = ℕ} 0 1 = cc in omega arith
 
       on : (r : Result (Unit {0}) Full) → MatchResult r (λ _. after ≡ insert_row key rank rows row) (λ _. (after ≡ rows) × (length rows ≡ limit) × (find key rank rows (key row) ≡ None)) → after ≡ set rows i row
-      on (Ok u) c = c ∙ put_over key rank rows (key row) i (sym at) row refl
-      on (Err f) c = absurd (never (find key rank rows (key row)) (found_at key rank rows (key row) i (sym at) row) c.2)
+      on (Ok u) c = c ∙ put_of key rank rows (key row) (Ok i) (sym at) row refl
+      on (Err f) c = absurd (never (find key rank rows (key row)) (found_by key rank rows (key row) (Ok i) (sym at) row) c.2)
 
 -- ---- pages
 abbrev pub queued_in : ℕ → PageRow → PageRow

@@ -1,8 +1,7 @@
 // Closing a segment: it becomes Inactive, and its blob rows go.
 ghost use Rattle.std.specs.Prelude.{◌≡◌, ◌<◌, ◌≤◌, true, length};
-ghost use Rattle.table.specs.Held.{held, limit_of};
+ghost use Rattle.table.specs.Held.{held};
 ghost use Rattle.table.specs.Ranges.{floored, least_signed};
-ghost use Rattle.table.specs.Rows.{ascending};
 ghost use Rattle.segment.specs.Changes.{closed};
 ghost use Rattle.segment.specs.Rows.{blob_key, by_signed};
 ghost use Rattle.segment.specs.declared.state.Active.{Active};
@@ -13,7 +12,7 @@ ghost use Rattle.ledger.specs.Ledgers.{books_of};
 ghost use Rattle.std.specs.Ordering.{int_cmp};
 
 use crate::counts::{left_count, page_count};
-use ledger::{Ledger, take_out, write};
+use ledger::{Ledger, MAX_BLOB_ROWS};
 use ranges::{between, remove_between};
 use segment::{BlobRow, Segment, SegmentId, State};
 use table::Table;
@@ -39,12 +38,10 @@ pub fn close_at(ledger: &mut Ledger, n: SegmentId)
 {
     let max_pids = page_count(&ledger.pages, n);
     let replaced_pids = left_count(&ledger.pages, n);
-    let segment = take_out(&mut ledger.segments, n as usize);
-    write(
-        &mut ledger.segments,
-        n as usize,
-        shut(segment, max_pids, replaced_pids),
-    );
+    let segment = ledger.segments.take_out(n);
+    ledger
+        .segments
+        .write(n, shut(segment, max_pids, replaced_pids));
 }
 
 // The blob rows of segment n.

@@ -1,10 +1,9 @@
 // How many pages were written into a segment, and how many of them have left.
 ghost use Rattle.std.specs.Prelude.{◌≡◌, ◌<◌, true, length, filter};
 ghost use Rattle.table.specs.Held.{held};
-ghost use Rattle.table.specs.Rows.{ascending};
-ghost use Rattle.segment.specs.Rows.{page_key, by_page};
 ghost use Rattle.rules.specs.Pages.{page_count, left_count};
 
+use ledger::MAX_PAGE_ROWS;
 use ranges::between;
 use segment::{PageRow, SegmentId};
 use table::Table;
@@ -23,14 +22,14 @@ fn left_in(rows: &[PageRow]) -> u64
 }
 
 pub fn page_count(pages: &Table<PageRow, MAX_PAGE_ROWS>, n: SegmentId) -> u64
-    requires small { n < 256 }
+    requires { n < 256 }
     ensures { result ≡ page_count n (held pages.now) }
 {
     between(pages, (n, 0), (n + 1, 0)).len() as u64
 }
 
 pub fn left_count(pages: &Table<PageRow, MAX_PAGE_ROWS>, n: SegmentId) -> u64
-    requires small { n < 256 }
+    requires { n < 256 }
     ensures { result ≡ left_count n (held pages.now) }
 {
     left_in(between(pages, (n, 0), (n + 1, 0)))

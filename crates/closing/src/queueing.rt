@@ -1,28 +1,27 @@
 // Queueing the pages of a segment, each row in its place.
 ghost use Rattle.std.specs.Prelude.{◌≡◌, ◌<◌, true, length, slice_index_or, slice_set};
-ghost use Rattle.table.specs.Held.{held, limit_of};
-ghost use Rattle.table.specs.Rows.{ascending};
-ghost use Rattle.segment.specs.Rows.{page_key, by_page};
+ghost use Rattle.table.specs.Held.{held};
 ghost use Rattle.rules.specs.Pages.{all_queued};
 ghost use Rattle.closing.specs.Queued.{queued_if};
 
+use ledger::MAX_PAGE_ROWS;
 use ranges::bounds;
 use segment::{PageRow, SegmentId};
 use table::{Key, Row, Table};
 
 // Writes over the row at place i by one with the same key.
-fn write_at<R: Row>(table: &mut Table<R>, i: usize, row: R)
+fn write_at<R: Row, const LIMIT: usize>(table: &mut Table<R, LIMIT>, i: usize, row: R)
     requires there { i < length (held table.old) }
     requires same { R.Row.keyed (slice_index_or (held table.old) i row) ≡ R.Row.keyed row }
-    ensures rows { held table.new ≡ slice_set (held table.old) i row }
+    ensures { held table.new ≡ slice_set (held table.old) i row }
 {
     let _ = table.insert(row);
 }
 
 // The page at place i is queued, unless it has left.
 fn queue_at(pages: &mut Table<PageRow, MAX_PAGE_ROWS>, i: usize)
-    requires there { i < length (held pages.old) }
-    ensures rows { (d : PageRow) → held pages.new ≡ slice_set (held pages.old) i (queued_if (slice_index_or (held pages.old) i d)) }
+    requires { i < length (held pages.old) }
+    ensures { (d : PageRow) → held pages.new ≡ slice_set (held pages.old) i (queued_if (slice_index_or (held pages.old) i d)) }
 {
     let row = pages.rows()[i];
     if !row.left {
@@ -39,8 +38,8 @@ fn queue_at(pages: &mut Table<PageRow, MAX_PAGE_ROWS>, i: usize)
 
 // The pages of segment n that have not left are queued.
 pub fn queue_all(pages: &mut Table<PageRow, MAX_PAGE_ROWS>, n: SegmentId)
-    requires small { n < 256 }
-    ensures rows { held pages.new ≡ all_queued n (held pages.old) }
+    requires { n < 256 }
+    ensures { held pages.new ≡ all_queued n (held pages.old) }
 {
     let (start, end) = bounds(pages.rows(), (n, 0), (n + 1, 0));
     for i in start..end {

@@ -1,7 +1,8 @@
 // Draining by share: where much is free, the last closed segment is drained too.
 ghost use Rattle.std.specs.Prelude.{◌≡◌, ◌+◌, ◌^◌, ◌<◌, ◌≤◌, length, filter};
 ghost use Rattle.rules.specs.Stabilizing.{free_below_tip, inactive_count, is_inactive, much_is_free};
-ghost use Rattle.ledger.specs.Ledgers.{books_of, states};
+ghost use Rattle.ledger.specs.Ledgers.{books_of};
+ghost use Rattle.ledger.specs.States.{states};
 ghost use Rattle.closing.specs.Shares.{number_from, Drains};
 
 use ledger::Ledger;

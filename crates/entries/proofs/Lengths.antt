@@ -1,23 +1,11 @@
 -- How many rows there are after one is put in, and rows put in one after the other.
-use Rattle.std.proofs.Common.{◌≡◌, ℕ, zero, suc, ◌+◌, ◌<◌, ◌≤◌, true, List, [], ◌∷◌, length, get_or, take, Some, vec_items, Ordering, Less, Equal, Greater, sym, refl, ap, ◌∙◌, add-one, arith}
+use Rattle.std.proofs.Common.{◌≡◌, ℕ, zero, suc, ◌+◌, ◌<◌, ◌≤◌, true, List, [], ◌∷◌, length, get_or, take, Some, Ordering, Less, Equal, Greater, sym, refl, ap, ◌∙◌, add-one, arith}
 use Rattle.std.specs.Ordering.{is_lt}
-use Rattle.std.proofs.lemmas.List.{length-take-le}
 use Rattle.std.proofs.lemmas.Bool.{and_parts}
-use Rattle.table.specs.Held.{held, limit_of}
 use Rattle.table.specs.Order.{Lawful}
 use Rattle.table.specs.Rows.{by, every, find, put_by, insert_row, ascending, towards}
-use Rattle.table.specs.declared.key.Key.{Ghosts as KeyGhosts}
-use Rattle.table.specs.declared.owner.Table.{Table}
-use Rattle.table.specs.declared.row.Row.{Ghosts as RowGhosts}
 use Rattle.table.proofs.Laws.{length_insert_old, find_key}
 use Rattle.table.proofs.Orders.{every_at, less_from}
-
-pub held_most : {X K : Type 0} {r : RowGhosts X K} {k : KeyGhosts K} (t : Table X K r k) → length (held t) ≤ limit_of t
-held_most t =
-    let below = t.below in
-    let as_many = t.places.ok.0 in
-    let e = length-take-le t.len (vec_items t.places) (omega arith) in
-    omega arith
 
 module _ {X : Type 0} (at : X → Ordering) (row : X) where
   length_put : (rows : List X) → length (put_by at row rows) ≤ length rows + 1

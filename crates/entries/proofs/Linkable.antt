@@ -10,7 +10,7 @@ use Rattle.segment.specs.declared.state.Active.{Active}
 use Rattle.rules.specs.Books.{Books, state_of, unused}
 use Rattle.rules.specs.Links.{info_segment, link_refusal, linked_state}
 use Rattle.rules.specs.Pages.{page_row, new_row, written}
-use Rattle.ledger.specs.Ledgers.{states}
+use Rattle.ledger.specs.States.{states}
 use Rattle.entries.proofs.Accepted.{active, passes}
 use Rattle.entries.proofs.Lengths.{length_insert}
 

@@ -4,7 +4,6 @@
 mod links;
 mod lsns;
 mod olds;
-mod reading;
 mod recording;
 mod replaces;
 mod spare;

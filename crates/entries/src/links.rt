@@ -1,17 +1,14 @@
 // Link: its checks.
 ghost use Rattle.std.specs.Prelude.{◌≡◌, ◌<◌, ◌≤◌, true, false};
 ghost use Rattle.table.specs.Held.{held};
-ghost use Rattle.table.specs.Rows.{ascending};
 ghost use Rattle.segment.specs.Bases.{base_of};
 ghost use Rattle.segment.specs.Bounds.{bounded};
-ghost use Rattle.segment.specs.Rows.{page_key, by_page};
 ghost use Rattle.segment.specs.declared.state.State.TheVariants as is;
 ghost use Rattle.rules.specs.Links.{out_of_range, into_active, into_closed, into_state, link_refusal};
 ghost use Rattle.ledger.specs.Ledgers.{books_of};
 ghost use Rattle.ledger.specs.Verdicts.{verdict};
 
-use crate::reading::segment_at;
-use ledger::Ledger;
+use ledger::{Ledger, MAX_PAGE_ROWS};
 use rules::Refusal;
 use segment::{Active, CacheInfo, Lsn, PageId, PageRow, SegmentId, State, base};
 use table::Table;
@@ -19,8 +16,6 @@ use table::Table;
 pub const MAX_SIZE: u64 = 4_294_967_295;
 
 const MAX_LINKED: u64 = 1_099_511_627_776;
-
-const MAX_PAGE_ROWS: usize = 2048;
 
 // Why an entry with this base may not go into an Active segment.
 fn check_active(
@@ -95,7 +90,7 @@ pub fn check_link(ledger: &Ledger, page: PageId, info: &CacheInfo) -> Result<(),
         return Err(Refusal::TooLarge);
     }
     let n = ledger.segment_id(info.pointer.lid());
-    let Some(segment) = segment_at(ledger, n) else {
+    let Some(segment) = ledger.segments.get(n) else {
         return Err(Refusal::NoSegment);
     };
     check_state(ledger, n, page, info, &segment.state)

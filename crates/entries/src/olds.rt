@@ -1,9 +1,7 @@
 // The old segments of a replacement, checked as if the new entry were linked already.
 ghost use Rattle.std.specs.Prelude.{◌≡◌, ◌<◌, ◌≤◌, true, None};
 ghost use Rattle.table.specs.Held.{held};
-ghost use Rattle.table.specs.Rows.{ascending};
 ghost use Rattle.segment.specs.Bounds.{bounded};
-ghost use Rattle.segment.specs.Rows.{page_key, by_page};
 ghost use Rattle.rules.specs.Books.{state_of};
 ghost use Rattle.rules.specs.Links.{link_of, link_refusal, linked_state};
 ghost use Rattle.rules.specs.Pages.{page_row, is_lying};
@@ -13,9 +11,8 @@ ghost use Rattle.ledger.specs.Verdicts.{verdict};
 ghost use Rattle.entries.specs.Olds.{from_lying, from_seen};
 ghost use Rattle.entries.specs.Sums.{pairs};
 
-use crate::reading::segment_at;
 use crate::sums::SumRow;
-use ledger::Ledger;
+use ledger::{Ledger, MAX_PAGE_ROWS};
 use rules::Refusal;
 use segment::{CacheInfo, Lsn, PageId, PageRow, SegmentId, State};
 use table::Table;
@@ -74,7 +71,7 @@ fn check_at(
     requires accepted { link_refusal (books_of ledger.now) page new.now ≡ None }
     ensures { result ≡ verdict (from_state (link_of page new.now (books_of ledger.now)) old.now.segment page base old.now.size (state_of (link_of page new.now (books_of ledger.now)) old.now.segment)) }
 {
-    let Some(segment) = segment_at(ledger, old.segment) else {
+    let Some(segment) = ledger.segments.get(old.segment) else {
         return Err(Refusal::NoSegment);
     };
     if old.segment == ledger.segment_id(new.pointer.lid()) {

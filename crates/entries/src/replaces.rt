@@ -20,7 +20,7 @@ use ledger::Ledger;
 use rules::Refusal;
 use segment::{CacheInfo, Lsn, PageId, base};
 
-const MAX_OLDS: usize = 256;
+pub const MAX_OLDS: usize = 256;
 
 fn is_too_large(info: &CacheInfo) -> bool
     ensures { result ≡ too_large info.now.log_size }

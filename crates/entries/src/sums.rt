@@ -1,10 +1,7 @@
 // The sizes of old entries, summed by segment.
-ghost use Rattle.std.specs.Prelude.{◌≡◌, true};
-ghost use Rattle.table.specs.Held.{held, limit_of};
-ghost use Rattle.table.specs.Rows.{ascending};
 ghost use Rattle.entries.specs.SumKeys.{sum_key};
-ghost use Rattle.std.specs.Ordering.{nat_cmp};
 
+use crate::replaces::MAX_OLDS;
 use segment::SegmentId;
 use table::{Key, Row, Table};
 
@@ -30,6 +27,4 @@ impl Row for SumRow {
 #[derive(Drop)]
 pub struct Sums {
     pub rows: Table<SumRow, MAX_OLDS>,
-    ghost up: { ascending sum_key nat_cmp (held rows) ≡ true },
-    ghost limit: { limit_of rows ≡ 256 },
 }

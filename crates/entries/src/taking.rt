@@ -1,21 +1,19 @@
 // A page is replaced in an old segment.
 ghost use Rattle.std.specs.Prelude.{◌≡◌, ◌<◌, true, length, if◌then◌else◌, None};
-ghost use Rattle.table.specs.Held.{held, limit_of};
-ghost use Rattle.table.specs.Rows.{ascending};
-ghost use Rattle.segment.specs.Rows.{page_key, by_page};
+ghost use Rattle.table.specs.Held.{held};
 ghost use Rattle.rules.specs.Books.{state_of};
 ghost use Rattle.rules.specs.Pages.{page_row, marked};
 ghost use Rattle.rules.specs.Replacing.{from_state, taken_at};
 ghost use Rattle.orders.specs.Counts.{Counts};
 ghost use Rattle.ledger.specs.Ledgers.{books_of};
 
-use ledger::{Ledger, put, take_out, write};
+use ledger::{Ledger, MAX_PAGE_ROWS, put};
 use segment::{Lsn, PageId, PageRow, SegmentId};
 use table::Table;
 
 // Marks the page as left, if it has a row in the segment.
 fn mark_left(pages: &mut Table<PageRow, MAX_PAGE_ROWS>, n: SegmentId, page: PageId)
-    ensures rows { held pages.new ≡ marked (held pages.old) (page_row (held pages.old) n page) }
+    ensures { held pages.new ≡ marked (held pages.old) (page_row (held pages.old) n page) }
 {
     if let Some(row) = pages.get((n, page)) {
         put(pages, PageRow { left: true, ..row });
@@ -23,7 +21,7 @@ fn mark_left(pages: &mut Table<PageRow, MAX_PAGE_ROWS>, n: SegmentId, page: Page
 }
 
 fn mark_if(pages: &mut Table<PageRow, MAX_PAGE_ROWS>, leaves: bool, n: SegmentId, page: PageId)
-    ensures rows { held pages.new ≡ (if leaves then marked (held pages.old) (page_row (held pages.old) n page) else held pages.old) }
+    ensures { held pages.new ≡ (if leaves then marked (held pages.old) (page_row (held pages.old) n page) else held pages.old) }
 {
     if leaves {
         mark_left(pages, n, page);
@@ -37,8 +35,8 @@ pub fn take_at(ledger: &mut Ledger, n: SegmentId, page: PageId, base: Lsn, size:
     requires counts { Counts (books_of ledger.old) }
     ensures { books_of ledger.new ≡ taken_at n page base size (books_of ledger.old) }
 {
-    let segment = take_out(&mut ledger.segments, n as usize);
+    let segment = ledger.segments.take_out(n);
     let (segment, leaves) = segment.remove_pid(base, size);
-    write(&mut ledger.segments, n as usize, segment);
+    ledger.segments.write(n, segment);
     mark_if(&mut ledger.pages, leaves, n, page);
 }

@@ -1,22 +1,22 @@
 // The books that a start begins with: so many segments, none of them used, and no row.
-ghost use Rattle.std.specs.Prelude.{◌≡◌, ◌*◌, ◌^◌, ◌<◌, ◌≤◌, replicate, None, vec_capacity};
+ghost use Rattle.std.specs.Prelude.{◌≡◌, ◌*◌, ◌^◌, ◌<◌, ◌≤◌, replicate, None};
 ghost use Rattle.rules.specs.Books.{unused};
 ghost use Rattle.rules.specs.Starting.{blank};
-ghost use Rattle.ledger.specs.Ledgers.{books_of, states};
+ghost use Rattle.ledger.specs.Ledgers.{books_of};
+ghost use Rattle.ledger.specs.States.{states_of};
 ghost use Rattle.recovery.specs.Begun.{emptied};
 ghost use Rattle.recovery.specs.Plans.{sized};
 
-use ledger::Ledger;
+use ledger::{Ledger, Segments};
 use segment::{Free, Segment, State};
 
-fn fill_unused(segments: &mut Vec<Segment>, count: u64)
-    requires { count ≤ vec_capacity segments.old }
-    ensures states { states segments.new.items ≡ replicate count unused }
-    ensures cap { vec_capacity segments.new ≡ vec_capacity segments.old }
+fn fill_unused(segments: &mut Segments, count: u64)
+    requires { count ≤ 256 }
+    ensures { states_of segments.new ≡ replicate count unused }
 {
     segments.clear();
     for _i in 0..count {
-        segments.push_reserved(Segment {
+        segments.push(Segment {
             state: State::Free(Free { previous_lsn: None }),
         });
     }

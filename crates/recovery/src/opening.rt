@@ -1,14 +1,15 @@
 // Segments become Active, at the base of an LSN.
-ghost use Rattle.std.specs.Prelude.{◌≡◌, ◌/◌, ◌<◌, false, length, vec_capacity, slice_index_or, slice_set};
+ghost use Rattle.std.specs.Prelude.{◌≡◌, ◌/◌, ◌<◌, false, length, slice_index_or, slice_set};
 ghost use Rattle.rules.specs.Books.{unused};
 ghost use Rattle.rules.specs.Links.{out_of_range};
 ghost use Rattle.rules.specs.Starting.{with_active, opened_at, opened_for, row_segment};
-ghost use Rattle.ledger.specs.Ledgers.{books_of, states};
+ghost use Rattle.ledger.specs.Ledgers.{books_of};
+ghost use Rattle.ledger.specs.States.{states_of};
 ghost use Rattle.recovery.specs.Begun.{first_opened};
 ghost use Rattle.recovery.specs.Plans.{Reaches};
 
-use ledger::{Ledger, take_out, write};
-use segment::{Free, LogOffset, Lsn, Segment, SnapshotRow, State, base};
+use ledger::{Ledger, Segments};
+use segment::{Free, LogOffset, Lsn, Segment, SegmentId, SnapshotRow, State, base};
 
 // The segment, which becomes Active unless it is.
 fn opened(segment: Segment, base: Lsn) -> Segment
@@ -21,14 +22,13 @@ fn opened(segment: Segment, base: Lsn) -> Segment
     Segment { state }
 }
 
-// Segment i becomes Active unless it is.
-fn open_at(segments: &mut Vec<Segment>, i: usize, base: Lsn)
-    requires { i < length (states segments.old.items) }
-    ensures states { states segments.new.items ≡ slice_set (states segments.old.items) i (opened_at base (slice_index_or (states segments.old.items) i unused)) }
-    ensures cap { vec_capacity segments.new ≡ vec_capacity segments.old }
+// Segment n becomes Active unless it is.
+fn open_at(segments: &mut Segments, n: SegmentId, base: Lsn)
+    requires { n < length (states_of segments.old) }
+    ensures { states_of segments.new ≡ slice_set (states_of segments.old) n (opened_at base (slice_index_or (states_of segments.old) n unused)) }
 {
-    let segment = take_out(segments, i);
-    write(segments, i, opened(segment, base));
+    let segment = segments.take_out(n);
+    segments.write(n, opened(segment, base));
 }
 
 // The segment of a row becomes Active unless it is.
@@ -40,23 +40,18 @@ pub fn open_for(ledger: &mut Ledger, row: &SnapshotRow)
 {
     let n = ledger.segment_id(row.pointer.lid());
     let base = base(row.lsn, ledger.segment_size);
-    open_at(&mut ledger.segments, n as usize, base);
+    open_at(&mut ledger.segments, n, base);
 }
 
 // The segment of the active offset becomes Active.
-fn open_first(segments: &mut Vec<Segment>, segment_size: u64, active: Option<LogOffset>, base: Lsn)
+fn open_first(segments: &mut Segments, segment_size: u64, active: Option<LogOffset>, base: Lsn)
     requires size { 0 < segment_size }
-    requires reached { Reaches segment_size active (length (states segments.old.items)) }
-    ensures states { states segments.new.items ≡ first_opened segment_size active base (states segments.old.items) }
-    ensures cap { vec_capacity segments.new ≡ vec_capacity segments.old }
+    requires reached { Reaches segment_size active (length (states_of segments.old)) }
+    ensures { states_of segments.new ≡ first_opened segment_size active base (states_of segments.old) }
 {
     if let Some(offset) = active {
         let state = State::Active(Free { previous_lsn: None }.activate(base));
-        write(
-            segments,
-            (offset / segment_size) as usize,
-            Segment { state },
-        );
+        segments.write(offset / segment_size, Segment { state });
     }
 }
 

@@ -1,15 +1,13 @@
 // The Active segments enter the ordering.
 ghost use Rattle.std.specs.Prelude.{◌≡◌, ◌+◌, ◌*◌, ◌^◌, ◌<◌, ◌≤◌, true, length};
-ghost use Rattle.table.specs.Held.{held, limit_of};
-ghost use Rattle.table.specs.Rows.{ascending};
-ghost use Rattle.segment.specs.Rows.{ordering_key};
+ghost use Rattle.table.specs.Held.{held};
 ghost use Rattle.rules.specs.Starting.{order_state, order_all, ordered};
-ghost use Rattle.ledger.specs.Ledgers.{books_of, states};
+ghost use Rattle.ledger.specs.Ledgers.{books_of};
+ghost use Rattle.ledger.specs.States.{states};
 ghost use Rattle.recovery.specs.Outcomes.{outcome};
 ghost use Rattle.recovery.specs.Recoverable.{Recoverable};
-ghost use Rattle.std.specs.Ordering.{int_cmp};
 
-use ledger::{Ledger, put};
+use ledger::{Ledger, MAX_SEGMENTS, put};
 use rules::Refusal;
 use segment::{LogOffset, OrderingRow, Segment, State};
 use table::Table;
@@ -20,7 +18,7 @@ fn order_state(
     state: &State,
     offset: LogOffset,
 ) -> Result<(), Refusal>
-    requires room { length (held ordering.old) < limit_of ordering.old }
+    requires room { length (held ordering.old) < 256 }
     ensures more { length (held ordering.new) ≤ length (held ordering.old) + 1 }
     ensures rows { outcome result (held ordering.new) ≡ order_state offset state.now (held ordering.old) }
 {
@@ -41,7 +39,7 @@ fn order_segments(
     segments: &[Segment],
     segment_size: u64,
 ) -> Result<(), Refusal>
-    requires room { length (held ordering.old) + length segments.now ≤ limit_of ordering.old }
+    requires room { length (held ordering.old) + length segments.now ≤ 256 }
     requires fits { length segments.now * segment_size < 2 ^ 64 }
     ensures rows { outcome result (held ordering.new) ≡ order_all segment_size 0 (states segments.now) (held ordering.old) }
 {

@@ -12,7 +12,7 @@ ghost use Rattle.ledger.specs.Ledgers.{books_of};
 ghost use Rattle.upkeep.specs.Drains.{is_drained, all_left};
 
 use closing::queue_all;
-use ledger::{Ledger, put, take_out, write};
+use ledger::{Ledger, put};
 use segment::{FreeableRow, Inactive, Lsn, Segment, SegmentId, State};
 
 const SEGMENT_CLEANUP_THRESHOLD: u64 = 50;
@@ -35,8 +35,8 @@ pub fn start_draining(ledger: &mut Ledger, n: SegmentId)
     requires inactive { is_inactive (state_of (books_of ledger.old) n) ≡ true }
     ensures { (i : InactiveRecord) → state_of (books_of ledger.old) n ≡ is.Inactive i → books_of ledger.new ≡ start_draining n i (books_of ledger.old) }
 {
-    let segment = drain_segment(take_out(&mut ledger.segments, n as usize));
-    write(&mut ledger.segments, n as usize, segment);
+    let segment = drain_segment(ledger.segments.take_out(n));
+    ledger.segments.write(n, segment);
     queue_all(&mut ledger.pages, n);
     put(&mut ledger.listed, n * ledger.segment_size);
 }
@@ -150,8 +150,8 @@ pub fn empty(ledger: &mut Ledger, n: SegmentId) -> Lsn
     requires { n < length (books_of ledger.old).segments }
     ensures { (d : DrainingRecord) → state_of (books_of ledger.old) n ≡ is.Draining d → (books_of ledger.new ≡ emptied_at n d (books_of ledger.old)) × (result ≡ d.lsn) }
 {
-    let (segment, lsn) = empty_segment(take_out(&mut ledger.segments, n as usize));
-    write(&mut ledger.segments, n as usize, segment);
+    let (segment, lsn) = empty_segment(ledger.segments.take_out(n));
+    ledger.segments.write(n, segment);
     lsn
 }
 

@@ -10,7 +10,7 @@ ghost use Rattle.rules.specs.declared.refusal.Refusal.TheVariants as no;
 ghost use Rattle.ledger.specs.Verdicts.{verdict};
 
 use super::SpareBlobs;
-use ledger::put;
+use ledger::{MAX_BLOB_ROWS, put};
 use rules::Refusal;
 use segment::{BlobPointer, BlobRow, CacheInfo, SegmentId};
 use std::alloc::{AllocError, Global};
@@ -20,14 +20,7 @@ impl SpareBlobs {
     pub fn new(heap: Global) -> Result<SpareBlobs, AllocError>
         ensures { IfOk result (λ s. held s.rows ≡ []) }
     {
-        let rows = Table::new(
-            heap,
-            512,
-            BlobRow {
-                segment: 0,
-                blob: 0,
-            },
-        )?;
+        let rows = Table::new(heap)?;
         Ok(SpareBlobs { rows })
     }
 

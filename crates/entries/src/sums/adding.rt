@@ -19,14 +19,7 @@ impl Sums {
     pub fn new(heap: Global) -> Result<Sums, AllocError>
         ensures { IfOk result (λ s. held s.rows ≡ []) }
     {
-        let rows = Table::new(
-            heap,
-            256,
-            SumRow {
-                segment: 0,
-                size: 0,
-            },
-        )?;
+        let rows = Table::new(heap)?;
         Ok(Sums { rows })
     }
 

@@ -12,10 +12,8 @@ pub returns : goal.returns
 returns c =
     let rows = held c.args.blobs.now in
     let n = c.args.n in
-    let e = c.remove_between.ensures.rows ∙ signed_without blob_key rows n c.requires.floor in
+    let e = c.remove_between.ensures ∙ signed_without blob_key rows n c.requires.floor in
     record {
-      order = c.remove_between.ensures.order;
       floor = ap (λ l. floored blob_key int_cmp l least_signed) e ∙ blobs_off_floored n rows c.requires.floor;
-      limit = c.remove_between.ensures.limit;
       rows = e;
     }

@@ -12,14 +12,14 @@ loop-i-init c =
     let rows = held c.args.pages.now in
     let start = c.bounds-start.result.0 in
     let out = outside_range n start c.bounds-start.result.1 c.rows.result.now rows c.rows.ensures c.bounds-start.ensures.rest in
-    (c.requires.order, refl, sym (front_alone (queued_in n) (λ row. not (is_in n row)) (other_alone n) start rows out.0))
+    sym (front_alone (queued_in n) (λ row. not (is_in n row)) (other_alone n) start rows out.0)
 
 pub queue_at-requires : goal.queue_at-requires
 queue_at-requires c =
     let rows = held c.args.pages.now in
-    let a = ap length c.loop-i.invariant.2 ∙ changed_length (queued_in c.args.n) c.loop-i.i rows in
+    let a = ap length c.loop-i.invariant ∙ changed_length (queued_in c.args.n) c.loop-i.i rows in
     let b = ap length c.rows.ensures in
-    record { order = c.loop-i.invariant.0; there = omega (arith, c.bounds-start.ensures.within) }
+    omega (arith, c.bounds-start.ensures.within)
 
 pub loop-i-preserved : goal.loop-i-preserved
 loop-i-preserved c =
@@ -33,11 +33,8 @@ loop-i-preserved c =
     let there : i < length rows = omega (arith, c.bounds-start.ensures.within) in
     let mine = inside_range n c.bounds-start.result.0 c.bounds-start.result.1 i slice rows d c.rows.ensures c.bounds-start.ensures.part c.loop-i.auto.i c.loop-i-test.true c.bounds-start.ensures.within.1 in
     let row : queued_if (get_or (changed_to f i rows) i d) ≡ f (get_or rows i d) = ap queued_if (changed_at f i rows d) ∙ own_queued n (get_or rows i d) mine in
-    let e = c.loop-i.invariant.2 in (
-      c.queue_at.ensures.order,
-      c.queue_at.ensures.limit ∙ c.loop-i.invariant.1,
-      c.queue_at.ensures.rows d ∙ (λ k. set (e k) i (queued_if (get_or (e k) i d))) ∙ ap (set (changed_to f i rows) i) row ∙ changed_more f i rows d there,
-    )
+    let e = c.loop-i.invariant in
+    c.queue_at.ensures d ∙ (λ k. set (e k) i (queued_if (get_or (e k) i d))) ∙ ap (set (changed_to f i rows) i) row ∙ changed_more f i rows d there
 
 pub returns : goal.returns
 returns c =
@@ -45,8 +42,4 @@ returns c =
     let rows = held c.args.pages.now in
     let out = outside_range n c.bounds-start.result.0 c.bounds-start.result.1 c.rows.result.now rows c.rows.ensures c.bounds-start.ensures.rest in
     let last : c.loop-i.i ≡ c.bounds-start.result.1 = omega (arith, c.bounds-start.ensures.within) in
-    record {
-      order = c.loop-i.invariant.0;
-      limit = c.loop-i.invariant.1;
-      rows = c.loop-i.invariant.2 ∙ ap (λ k. changed_to (queued_in n) k rows) last ∙ behind_alone (queued_in n) (λ row. not (is_in n row)) (other_alone n) c.bounds-start.result.1 rows out.1;
-    }
+    c.loop-i.invariant ∙ ap (λ k. changed_to (queued_in n) k rows) last ∙ behind_alone (queued_in n) (λ row. not (is_in n row)) (other_alone n) c.bounds-start.result.1 rows out.1

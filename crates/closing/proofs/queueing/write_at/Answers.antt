@@ -3,8 +3,4 @@ use Rattle.closing.proofs.Stepping.{over_place}
 use Rattle.closing.proofs.queueing.write_at.Goals as goal
 
 pub returns : goal.returns
-returns g c = record {
-  order = c.insert.ensures.order;
-  limit = c.insert.ensures.limit;
-  rows = over_place g.R.Row.keyed g.R.Key.Key.lawful _ _ c.args.i _ c.args.row c.insert.result c.requires.order c.requires.there c.requires.same c.insert.ensures.cases;
-}
+returns g c = over_place g.R.Row.keyed g.R.Key.Key.lawful _ _ c.args.i _ c.args.row c.insert.result c.args.table.now.up c.requires.there c.requires.same c.insert.ensures.cases

@@ -3,7 +3,7 @@ use Rattle.std.proofs.Common.{ℕ, ◌≤◌, cond, length, filter, ap, ◌∙�
 use Rattle.std.proofs.lemmas.List.{take_all, length-map}
 use Rattle.segment.specs.declared.segment.Segment.{Segment}
 use Rattle.rules.specs.Stabilizing.{is_inactive}
-use Rattle.ledger.specs.Ledgers.{states}
+use Rattle.ledger.specs.States.{states}
 use Rattle.closing.proofs.Sharing.{count_more}
 use Rattle.closing.proofs.shares.inactive_in.Goals as goal
 use Rattle.closing.proofs.shares.inactive_in.Goals.{then-is_inactive, else-is_inactive}

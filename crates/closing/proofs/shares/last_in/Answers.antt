@@ -3,7 +3,7 @@ use Rattle.std.proofs.Common.{◌+◌, ◌≤◌, true, false, length, drop, sym
 use Rattle.std.proofs.lemmas.List.{length-map}
 use Rattle.segment.specs.declared.segment.Segment.{Segment}
 use Rattle.rules.specs.Stabilizing.{is_inactive, first_some}
-use Rattle.ledger.specs.Ledgers.{states}
+use Rattle.ledger.specs.States.{states}
 use Rattle.closing.specs.Shares.{number_from}
 use Rattle.closing.proofs.Sharing.{state_there, there, found_more, found_last}
 use Rattle.closing.proofs.shares.last_in.Goals as goal

@@ -1,7 +1,7 @@
 -- The last of those passed stands unless a later one is Inactive.
 use Rattle.std.proofs.Common.{◌≡◌, drop}
 use Rattle.rules.specs.Stabilizing.{first_some}
-use Rattle.ledger.specs.Ledgers.{states}
+use Rattle.ledger.specs.States.{states}
 use Rattle.closing.specs.Shares.{number_from}
 use Rattle.closing.proofs.shares.last_in.Given as goal
 

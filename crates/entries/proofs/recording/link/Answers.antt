@@ -6,7 +6,6 @@ use Rattle.rules.specs.Links.{linked_at, linked_state}
 use Rattle.rules.specs.Pages.{page_row, written}
 use Rattle.ledger.specs.Ledgers.{books_of}
 use Rattle.entries.proofs.Accepted.{info_reached}
-use Rattle.entries.proofs.Lengths.{held_most}
 use Rattle.entries.proofs.Linkable.{kept_state, rows_have_room, bytes_have_room}
 use Rattle.entries.proofs.recording.link.Goals as goal
 
@@ -17,12 +16,10 @@ link_at-requires c =
     let p = c.args.page in
     let info = c.args.info.now in
     let n = sym (c.segment_id-n.ensures ∙ ap (λ o. o / b.size) c.lid.ensures) in
-    let most = held_most l.pages in
-    let limit = l.pages_limit in
     record {
       reached = subst (λ k. k < length b.segments) n (info_reached b p info c.requires.accepted);
-      room = subst (λ k. length (written k p b.pages (page_row b.pages k p)) ≤ 2048) n (rows_have_room b p info c.requires.accepted (omega (arith, most, limit)));
-      bytes = subst (λ k. bounded (linked_state info.log_size (state_of b k)) ≡ true) n (bytes_have_room b p info c.requires.accepted (kept_state (vec_items l.segments) _));
+      room = subst (λ k. length (written k p b.pages (page_row b.pages k p)) ≤ 2048) n (rows_have_room b p info c.requires.accepted l.pages.few);
+      bytes = subst (λ k. bounded (linked_state info.log_size (state_of b k)) ≡ true) n (bytes_have_room b p info c.requires.accepted (kept_state (vec_items l.segments.list) _));
     }
 
 pub returns : goal.returns

@@ -4,16 +4,15 @@ use Rattle.std.proofs.lemmas.Int.{ints}
 use Rattle.table.specs.Held.{held}
 use Rattle.table.specs.Ranges.{between}
 use Rattle.segment.specs.Rows.{ordering_key}
-use Rattle.closing.proofs.LaterRange.{held_most, between_most, ripe_range}
+use Rattle.closing.proofs.LaterRange.{between_most, ripe_range}
 use Rattle.closing.proofs.ripening.gathering.gather_ripe.Goals as goal
 use Rattle.std.specs.Ordering.{int_cmp}
 
 pub refill-requires : goal.refill-requires
 refill-requires c =
     let l = c.args.ledger.now in
-    let m = held_most l.ordering in
     let k = between_most ordering_key int_cmp (held l.ordering) _ _ c.between.result.now c.between.ensures in
-    omega (arith, l.ordering_limit, c.args.into.now.room)
+    omega (arith, l.ordering.few, c.args.into.now.room)
 
 pub returns : goal.returns
 returns c =

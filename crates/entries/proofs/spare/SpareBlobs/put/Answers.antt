@@ -11,19 +11,12 @@ use Rattle.entries.proofs.spare.SpareBlobs.put.Goals as goal
 
 pub put-requires : goal.put-requires
 put-requires c =
-    let s = c.args.self.now in
-    let limit = s.limit in
-    let room = c.requires in
-    let more = length_insert blob_key by_signed (held s.rows) c.args.row in
-    record { order = s.up; room = omega (arith, more, room, limit) }
+    let more = length_insert blob_key by_signed (held c.args.self.now.rows) c.args.row in
+    (omega arith, omega (arith, more, c.requires))
 
 pub invariant_of-self : goal.invariant_of-self
 invariant_of-self c =
     let s = c.args.self.now in
     let fits : SFits w64 c.args.row.blob = search rules in
     let low = every_insert (λ row. not (is_lt (int_cmp row.blob least_signed))) blob_key by_signed (held s.rows) c.args.row (ap not (above_least_signed c.args.row.blob fits)) s.floor in
-    record {
-      up = c.put.ensures.order;
-      floor = subst (λ rows. floored blob_key int_cmp rows least_signed ≡ true) (sym c.put.ensures.rows) low;
-      limit = c.put.ensures.limit ∙ s.limit;
-    }
+    record { floor = subst (λ rows. floored blob_key int_cmp rows least_signed ≡ true) (sym c.put.ensures) low }

@@ -8,8 +8,5 @@ use Rattle.std.specs.Ordering.{nat_cmp}
 
 pub put-requires : goal.put-requires
 put-requires c =
-    let s = c.args.self.now in
-    let limit = s.limit in
-    let room = c.requires.room in
-    let more = length_insert sum_key nat_cmp (held s.rows) (sum_row c.args.n (c.size_in.result + c.args.size)) in
-    record { order = s.up; room = omega (arith, more, room, limit) }
+    let more = length_insert sum_key nat_cmp (held c.args.self.now.rows) (sum_row c.args.n (c.size_in.result + c.args.size)) in
+    (omega arith, omega (arith, more, c.requires.room))
