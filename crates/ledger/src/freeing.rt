@@ -48,7 +48,7 @@ impl Ledger {
         ensures { books_of self.new ≡ put_free n (books_of self.old) }
     {
         let offset = n * self.segment_size;
-        unorder(&mut self.ordering, self.segments.state(n));
+        unorder(&mut self.ordering, &self.segments.at(n).state);
         remove_between(&mut self.pages, (n, 0), (n + 1, 0));
         self.listed.remove(offset);
         put(&mut self.free, offset);

@@ -43,12 +43,12 @@ impl Segments {
         self.list.get(n as usize)
     }
 
-    // The state of segment n, which is reached.
-    pub fn state(&self, n: SegmentId) -> &State
+    // Segment n, which is reached.
+    pub fn at(&self, n: SegmentId) -> &Segment
         requires { n < length (states_of self.now) }
-        ensures { result.now ≡ slice_index_or (states_of self.now) n unused }
+        ensures { result.now.state ≡ slice_index_or (states_of self.now) n unused }
     {
-        &self.list[n as usize].state
+        &self.list[n as usize]
     }
 
     // Moves segment n out; one that was never used is left in its place.

@@ -16,7 +16,7 @@ use Rattle.rules.specs.declared.refusal.Refusal.TheVariants as no
 use Rattle.rules.specs.Books.{Books, unused}
 use Rattle.rules.specs.Starting.{order_state, order_then, order_all}
 use Rattle.orders.specs.Within.{Within}
-use Rattle.ledger.specs.Ledgers.{states}
+use Rattle.ledger.specs.States.{states}
 use Rattle.recovery.proofs.PlanParts.{tip_fits}
 use Rattle.std.specs.Ordering.{int_cmp}
 

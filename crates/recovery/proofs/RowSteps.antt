@@ -1,12 +1,10 @@
 -- One row: it is refused where the checks refuse it, and what it leaves is within the bounds again.
-use Rattle.std.proofs.Common.{◌≡◌, ℕ, ◌<◌, ◌≤◌, true, false, cond, not, length, get_or, ℤ, Some, None, Ok, Err, vec_items, vec_len, Option, Vec, sym, refl, ap, ◌∙◌, subst, true≢false, arith}
-use Rattle.std.specs.declared.alloc.Global.{Global}
+use Rattle.std.proofs.Common.{◌≡◌, ℕ, ◌<◌, ◌≤◌, true, false, cond, not, length, get_or, ℤ, Some, None, Ok, Err, Option, sym, refl, ap, ◌∙◌, subst, true≢false, arith}
 use Rattle.std.proofs.lemmas.List.{length-set, get_or-set_same}
 use Rattle.std.proofs.lemmas.Bool.{and_parts, le-leb, lt-leb, leb-true, not-false}
 use Rattle.segment.specs.Bases.{base_of}
 use Rattle.segment.specs.Bounds.{bounded}
 use Rattle.segment.specs.Updates.{linked}
-use Rattle.segment.specs.declared.segment.Segment.{Segment}
 use Rattle.segment.specs.declared.snapshot.SnapshotRow.{SnapshotRow}
 use Rattle.segment.specs.declared.state.Active.{Active}
 use Rattle.segment.specs.declared.state.State.{State}
@@ -20,17 +18,15 @@ use Rattle.orders.specs.Within.{KeptWithin, is_lsn, is_bounded}
 use Rattle.orders.proofs.Every.{every_index}
 use Rattle.orders.proofs.Replaces.{passed}
 use Rattle.orders.proofs.BoundStarts.{within_beginning}
-use Rattle.ledger.specs.Ledgers.{states}
 use Rattle.ledger.specs.Verdicts.{verdict}
-use Rattle.ledger.proofs.Reading.{as_many}
 use Rattle.recovery.specs.Recoverable.{Recoverable}
 
 -- a segment that is among those reached, or past them
-pub among : (v : Vec Segment Global) (n m len : ℕ) → n ≡ m → len ≡ vec_len v → n < len → m < length (states (vec_items v))
-among v n m len e f l = subst (λ k. k < length (states (vec_items v))) e (subst (λ k. n < k) (f ∙ sym (as_many v)) l)
+pub among : {n m len many : ℕ} → n ≡ m → len ≡ many → n < len → m < many
+among e f l = omega (arith, e, f, l)
 
-pub beyond : (v : Vec Segment Global) (n m len : ℕ) → n ≡ m → len ≡ vec_len v → len ≤ n → length (states (vec_items v)) ≤ m
-beyond v n m len e f l = subst (λ k. length (states (vec_items v)) ≤ k) e (subst (λ k. k ≤ n) (f ∙ sym (as_many v)) l)
+pub beyond : {n m len many : ℕ} → n ≡ m → len ≡ many → len ≤ n → many ≤ m
+beyond e f l = omega (arith, e, f, l)
 
 verdict_err : (o : Option Refusal) (e : Refusal) → Err e ≡ verdict o → o ≡ Some e
 verdict_err None e h = let z : ◌≡◌ {A = ℕ} 0 1 = cc in absurd (omega arith)

@@ -18,7 +18,7 @@ fn order_state(
     state: &State,
     offset: LogOffset,
 ) -> Result<(), Refusal>
-    requires room { length (held ordering.old) < 256 }
+    requires { length (held ordering.old) < 256 }
     ensures more { length (held ordering.new) ≤ length (held ordering.old) + 1 }
     ensures rows { outcome result (held ordering.new) ≡ order_state offset state.now (held ordering.old) }
 {

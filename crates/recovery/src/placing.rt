@@ -70,7 +70,7 @@ fn check_opened(ledger: &Ledger, header_len: u64, row: &SnapshotRow) -> Result<(
     let n = ledger.segment_id(row.pointer.lid());
     let base = base(row.lsn, ledger.segment_size);
     let size = row_size(header_len, row);
-    check_state(ledger.segments.state(n), base, size)
+    check_state(&ledger.segments.at(n).state, base, size)
 }
 
 // What a row of the page is refused for, its segment being open for it.

@@ -4,7 +4,7 @@ use Rattle.std.proofs.lemmas.List.{length-map}
 use Rattle.std.proofs.lemmas.Result.{err_from_is_err_and}
 use Rattle.table.specs.Held.{held}
 use Rattle.rules.specs.Starting.{order_state}
-use Rattle.ledger.specs.Ledgers.{states}
+use Rattle.ledger.specs.States.{states}
 use Rattle.recovery.specs.Outcomes.{outcome}
 use Rattle.recovery.proofs.OrderWalks.{state_read, order_more, order_stop, order_end, offset_fits}
 use Rattle.recovery.proofs.ordering.order_segments.Goals as goal
@@ -22,9 +22,7 @@ returns-in_err-order_state c =
     let state = state_read c.args.segments.now n c.index-segments-n.result c.loop-n-test.true in
     let e = c.in_err-order_state.ensures in
     record {
-      order = e.order;
-      limit = e.limit ∙ c.loop-n.invariant.1;
-      rows = ap (λ r. outcome r (held c.order_state.new.ordering)) p.1 ∙ order_stop size n all (held c.loop-n.ordering) _ c.loop-n.invariant.3 p.0 low (ap Err p.2 ∙ (e.rows ∙ ap (λ s. order_state (n * size) s (held c.loop-n.ordering)) state));
+      rows = ap (λ r. outcome r (held c.order_state.new.ordering)) p.1 ∙ order_stop size n all (held c.loop-n.ordering) _ c.loop-n.invariant.1 p.0 low (ap Err p.2 ∙ (e.rows ∙ ap (λ s. order_state (n * size) s (held c.loop-n.ordering)) state));
     }
 
 pub loop-n-preserved : goal.loop-n-preserved
@@ -36,10 +34,10 @@ loop-n-preserved c =
     let state = state_read c.args.segments.now n c.index-segments-n.result c.loop-n-test.true in
     let e = c.in_ok-order_state.ensures in
     let m = e.more in
-    let k = c.loop-n.invariant.2 in
-    (e.order, e.limit ∙ c.loop-n.invariant.1, omega arith, order_more size n all (held c.loop-n.ordering) _ c.loop-n.invariant.3 (held c.order_state.new.ordering) low (e.rows ∙ ap (λ s. order_state (n * size) s (held c.loop-n.ordering)) state))
+    let k = c.loop-n.invariant.0 in
+    (omega arith, order_more size n all (held c.loop-n.ordering) _ c.loop-n.invariant.1 (held c.order_state.new.ordering) low (e.rows ∙ ap (λ s. order_state (n * size) s (held c.loop-n.ordering)) state))
 
 pub returns : goal.returns
 returns c =
     let past = subst (λ k. k ≤ c.loop-n.n) (sym (length-map c.args.segments.now (λ s. s.state))) c.loop-n-test.false in
-    record { order = c.loop-n.invariant.0; limit = c.loop-n.invariant.1; rows = order_end c.args.segment_size c.loop-n.n (states c.args.segments.now) (held c.loop-n.ordering) _ c.loop-n.invariant.3 past }
+    record { rows = order_end c.args.segment_size c.loop-n.n (states c.args.segments.now) (held c.loop-n.ordering) _ c.loop-n.invariant.1 past }

@@ -1,21 +1,15 @@
 -- The state that is looked at is that of the row's segment.
-use Rattle.std.proofs.Common.{◌<◌, length, sym, ap, ◌∙◌, subst, w64, SFits, rules}
+use Rattle.std.proofs.Common.{ap, ◌∙◌, w64, SFits, rules}
 use Rattle.std.proofs.lemmas.Int.{to_z-of_z}
 use Rattle.segment.specs.Bases.{base_of}
 use Rattle.rules.specs.Books.{segment_of, state_of}
 use Rattle.ledger.specs.Ledgers.{books_of}
 use Rattle.ledger.specs.Verdicts.{verdict}
-use Rattle.ledger.proofs.Reading.{reached, state_at}
 use Rattle.recovery.specs.Placing.{state_refusal}
 use Rattle.recovery.proofs.placing.check_opened.Goals as goal
 
-pub index-requires : goal.index-requires
-index-requires c =
-    let b = books_of c.args.ledger.now in
-    reached c.args.ledger.now.segments c.segment_id-n.result (subst (λ n. n < length b.segments) (sym (c.segment_id-n.ensures ∙ ap (segment_of b) c.lid.ensures)) c.requires.reached)
-
 pub check_state-requires : goal.check_state-requires
-check_state-requires c = c.index.result.now.kept
+check_state-requires c = c.at.result.now.kept
 
 pub returns : goal.returns
 returns c =
@@ -23,8 +17,7 @@ returns c =
     let b = books_of l in
     let row = c.args.row.now in
     let at = c.segment_id-n.ensures ∙ ap (segment_of b) c.lid.ensures in
-    let low = reached l.segments c.segment_id-n.result (subst (λ n. n < length b.segments) (sym at) c.requires.reached) in
-    let state = state_at l.segments c.segment_id-n.result c.index.result.now low c.index.ensures ∙ ap (state_of b) at in
+    let state = c.at.ensures ∙ ap (state_of b) at in
     let fits : SFits w64 row.lsn = search rules in
     let base-fits : SFits w64 c.base-base.result = search rules in
     let base = to_z-of_z w64 c.base-base.result base-fits ∙ (c.base-base.ensures ∙ ap (base_of b.size) (to_z-of_z w64 row.lsn fits)) in

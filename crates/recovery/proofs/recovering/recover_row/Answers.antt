@@ -18,14 +18,14 @@ returns-then-n-len c =
     let l = c.args.ledger.now in
     let b = books_of l in
     let at = c.segment_id-n.ensures ∙ ap (segment_of b) c.lid.ensures in
-    record { books = row_past c.args.header_len c.args.page c.args.row.now b (beyond l.segments _ _ _ at c.len.ensures c.if-n-len.true); kept = tt }
+    record { books = row_past c.args.header_len c.args.page c.args.row.now b (beyond at c.len.ensures c.if-n-len.true); kept = tt }
 
 pub open_for-requires : goal.open_for-requires
 open_for-requires c =
     let l = c.args.ledger.now in
     let b = books_of l in
     let at = c.segment_id-n.ensures ∙ ap (segment_of b) c.lid.ensures in
-    record { size = size_positive b c.requires.kept.within.1; lsn = c.requires.lsn; reached = among l.segments _ _ _ at c.len.ensures c.if-n-len.false }
+    record { size = size_positive b c.requires.kept.within.1; lsn = c.requires.lsn; reached = among at c.len.ensures c.if-n-len.false }
 
 pub check_placed-requires : goal.check_placed-requires
 check_placed-requires c =
@@ -33,7 +33,7 @@ check_placed-requires c =
     let b = books_of l in
     let row = c.args.row.now in
     let at = c.segment_id-n.ensures ∙ ap (segment_of b) c.lid.ensures in
-    let low = among l.segments _ _ _ at c.len.ensures c.if-n-len.false in
+    let low = among at c.len.ensures c.if-n-len.false in
     let mid = c.open_for.ensures in
     record {
       size = subst (λ (x : Books). 0 < x.size) (sym mid) (size_positive b c.requires.kept.within.1);
@@ -47,7 +47,7 @@ returns-in_err-check_placed c =
     let b = books_of l in
     let row = c.args.row.now in
     let at = c.segment_id-n.ensures ∙ ap (segment_of b) c.lid.ensures in
-    let low = among l.segments _ _ _ at c.len.ensures c.if-n-len.false in
+    let low = among at c.len.ensures c.if-n-len.false in
     let mid = c.open_for.ensures in
     let p = err_from_is_err_and c.from_residual.result c.from_residual.ensures.1 in
     record {
@@ -61,7 +61,7 @@ link_at-requires c =
     let b = books_of l in
     let row = c.args.row.now in
     let at = c.segment_id-n.ensures ∙ ap (segment_of b) c.lid.ensures in
-    let low = among l.segments _ _ _ at c.len.ensures c.if-n-len.false in
+    let low = among at c.len.ensures c.if-n-len.false in
     let mid = c.open_for.ensures in
     let none = row_passes c.args.header_len c.args.page row b low (c.in_ok-check_placed.ensures ∙ ap (λ x. verdict (placed_refusal c.args.header_len c.args.page row x)) mid) in
     record {
@@ -76,7 +76,7 @@ returns c =
     let b = books_of l in
     let row = c.args.row.now in
     let at = c.segment_id-n.ensures ∙ ap (segment_of b) c.lid.ensures in
-    let low = among l.segments _ _ _ at c.len.ensures c.if-n-len.false in
+    let low = among at c.len.ensures c.if-n-len.false in
     let mid = c.open_for.ensures in
     let none = row_passes c.args.header_len c.args.page row b low (c.in_ok-check_placed.ensures ∙ ap (λ x. verdict (placed_refusal c.args.header_len c.args.page row x)) mid) in
     let all : books_of c.link_at.new.self ≡ after c.args.header_len c.args.page row b = c.link_at.ensures ∙ λ i. linked_at (at i) c.args.page (c.row_size.ensures i) (mid i) in

@@ -14,6 +14,6 @@ overflow_add-n c = omega (arith, c.requires.small)
 pub returns : goal.returns
 returns c =
     let l = c.args.self.now in
-    let order = c.unorder.ensures ∙ ap (λ s. unordered s (held l.ordering)) c.state.ensures in
+    let order = c.unorder.ensures ∙ ap (λ s. unordered s (held l.ordering)) c.at.ensures in
     let off = c.remove_between.ensures ∙ unsigned_without page_key (held l.pages) c.args.n in
     λ i. books l.segment_size (states_of l.segments) l.tip l.max_stabilized_lsn (c.put.ensures i) (order i) (off i) (held l.blobs) (held l.freeable) (c.remove.ensures.rows i) (held l.faults)
