@@ -2,7 +2,6 @@
 use Rattle.std.proofs.Common.{◌<◌, ◌≤◌, length, Err, sym, refl, ap, ◌∙◌, subst}
 use Rattle.std.proofs.lemmas.Result.{err_from_is_err_and}
 use Rattle.ledger.specs.Ledgers.{books_of}
-use Rattle.ledger.proofs.Reading.{as_many}
 use Rattle.upkeep.specs.Worlds.{seen}
 use Rattle.starting.proofs.Frees.{recovered_kept, freed_kept, free_more, free_stop, still_kept, free_end}
 use Rattle.starting.proofs.freeing.free_all.Goals as goal
@@ -14,13 +13,13 @@ pub free_state-requires : goal.free_state-requires
 free_state-requires g c =
     let n = c.loop-n.n in
     let h = c.loop-n.invariant.0 in
-    let low = subst (λ k. n < k) (c.len-n-end.ensures ∙ sym (as_many c.args.world.now.ledger.segments)) c.loop-n-test.true in
+    let low = subst (λ k. n < k) c.len-n-end.ensures c.loop-n-test.true in
     record { reached = subst (λ l. n < length l) (sym h.1) low; kept = freed_kept g.H.Host.respond _ n (books_of c.loop-n.world.ledger) low h }
 
 pub returns-in_err-free_state : goal.returns-in_err-free_state
 returns-in_err-free_state g c =
     let n = c.loop-n.n in
-    let low = subst (λ k. n < k) (c.len-n-end.ensures ∙ sym (as_many c.args.world.now.ledger.segments)) c.loop-n-test.true in
+    let low = subst (λ k. n < k) c.len-n-end.ensures c.loop-n-test.true in
     let p = err_from_is_err_and c.from_residual.result c.from_residual.ensures.1 in
     let v = seen g.H.Host.model c.free_state.new.world in
     ap (λ r. (r, v)) p.1 ∙ free_stop g.H.Host.respond (books_of c.args.world.now.ledger).segments n (seen g.H.Host.model c.loop-n.world) _ c.loop-n.invariant.1 c.loop-n.invariant.0 low p.0 v (ap (λ f. (Err f, v)) p.2 ∙ c.in_err-free_state.ensures)
@@ -28,7 +27,7 @@ returns-in_err-free_state g c =
 pub loop-n-preserved : goal.loop-n-preserved
 loop-n-preserved g c =
     let n = c.loop-n.n in
-    let low = subst (λ k. n < k) (c.len-n-end.ensures ∙ sym (as_many c.args.world.now.ledger.segments)) c.loop-n-test.true in
+    let low = subst (λ k. n < k) c.len-n-end.ensures c.loop-n-test.true in
     let states = (books_of c.args.world.now.ledger).segments in
     let w = seen g.H.Host.model c.loop-n.world in
     let v = seen g.H.Host.model c.free_state.new.world in
@@ -38,5 +37,5 @@ loop-n-preserved g c =
 pub returns : goal.returns
 returns g c =
     let n = c.loop-n.n in
-    let past = subst (λ k. k ≤ n) (c.len-n-end.ensures ∙ sym (as_many c.args.world.now.ledger.segments)) c.loop-n-test.false in
+    let past = subst (λ k. k ≤ n) c.len-n-end.ensures c.loop-n-test.false in
     free_end g.H.Host.respond (books_of c.args.world.now.ledger).segments n (seen g.H.Host.model c.loop-n.world) _ c.loop-n.invariant.1 past
