@@ -1,12 +1,13 @@
 -- What a test keeps of rows. A test that fails from some row on keeps the rows before it, so a range is two such cuts. Assumes nothing.
-use Rattle.std.proofs.Common.{◌≡◌, ℕ, zero, suc, Bool, true, false, cond, not, ◌&&◌, List, [], ◌∷◌, ◌++◌, ◌≤◌, length, take, drop, Some, None, filter, Option, Ordering, Less, Equal, Greater, sym, refl, ap, ◌∙◌, true≢false, arith}
+use Rattle.std.proofs.Common.{◌≡◌, ℕ, zero, suc, Bool, true, false, cond, not, ◌&&◌, List, [], ◌∷◌, ◌++◌, ◌≤◌, length, get_or, take, drop, Some, None, filter, Option, Ordering, Less, Equal, Greater, sym, refl, ap, ◌∙◌, true≢false, arith}
 use Rattle.std.specs.Ordering.{is_lt}
 use Rattle.std.specs.List.{ContainsAt as Has}
+use Rattle.std.specs.List.Sorted.{IsPartitionedBy, IsPartitionPoint}
 use Rattle.std.proofs.lemmas.Bool.{and_parts, and_from}
 use Rattle.table.specs.Order.{Lawful}
 use Rattle.table.specs.Rows.{every, by, find, ascending}
 use Rattle.table.proofs.Orders.{less_from}
-use Rattle.table.proofs.Places.{tail_up}
+use Rattle.table.proofs.Places.{head_less, tail_up}
 use Rattle.table.proofs.Laws.{find_tail, greater_is_not}
 
 module _ {X : Type 0} where
@@ -164,3 +165,24 @@ module _ {X K : Type 0} (key : X → K) {rank : K → K → Ordering} (laws : La
             let n = none e in
             let m : filter p xs ≡ [] = n.0 in
             (rw m, rw m (ap (λ l. x ∷ l) n.1))
+
+-- ---- where a test begins to fail
+module _ {X : Type 0} (p : X → Bool) where
+  -- the place that parts the rows by the test is the number of those that pass it
+  pub parted_count : (xs : List X) (i : ℕ) → i ≤ length xs → IsPartitionPoint (λ x. p x ≡ true) (λ x. p x ≡ false) xs i → i ≡ length (filter p xs)
+  parted_count [] i l h = omega (arith, l)
+  parted_count (x ∷ xs) zero l h =
+      let fails : p x ≡ false = h.1 0 x (omega arith) (omega arith) in
+      rw fails (parted_count xs zero (omega arith) ((λ k d low high. absurd (omega (arith, high))), (λ k d low high. h.1 (suc k) d (omega arith) (omega (arith, high)))))
+  parted_count (x ∷ xs) (suc i) l h =
+      let passes : p x ≡ true = h.0 0 x (omega arith) (omega arith) in
+      rw passes (ap suc (parted_count xs i (omega (arith, l)) ((λ k d low high. h.0 (suc k) d (omega arith) (omega (arith, high))), (λ k d low high. h.1 (suc k) d (omega (arith, low)) (omega (arith, high))))))
+
+module _ {X K : Type 0} (key : X → K) {rank : K → K → Ordering} (laws : Lawful rank) (p : X → Bool) (mono : (x y : X) → rank (key x) (key y) ≡ Less → p y ≡ true → p x ≡ true) where
+  -- a test that fails from some row on parts rows that ascend
+  pub parted : (rows : List X) → ascending key rank rows ≡ true → IsPartitionedBy p rows
+  parted [] up i j d le l t = absurd (omega (arith, l))
+  parted (x ∷ xs) up zero zero d le l t = t
+  parted (x ∷ xs) up zero (suc j) d le l t = mono x (get_or xs j d) (head_less key laws x xs j d up (omega (arith, l))) t
+  parted (x ∷ xs) up (suc i) zero d le l t = absurd (omega (arith, le))
+  parted (x ∷ xs) up (suc i) (suc j) d le l t = parted xs (tail_up key laws x xs up) i j d (omega (arith, le)) (omega (arith, l)) t

@@ -1,5 +1,5 @@
 -- Keys that are pairs: the first part decides first, so the rows of one first part stand in one piece. Assumes nothing.
-use Rattle.std.proofs.Common.{◌≡◌, ℕ, ◌+◌, ◌<◌, Bool, true, false, not, ◌&&◌, List, [], ◌∷◌, length, take, drop, ℤ, filter, Ordering, Less, Equal, Greater, sym, refl, ap, ◌∙◌, true≢false, arith, w64, SFits}
+use Rattle.std.proofs.Common.{◌≡◌, ℕ, ◌+◌, ◌-◌, ◌<◌, ◌≤◌, Bool, true, false, cond, not, ◌&&◌, List, [], ◌∷◌, ◌++◌, length, take, drop, ℤ, filter, Ordering, Less, Equal, Greater, sym, refl, ap, ◌∙◌, true≢false, arith, w64, SFits}
 use Rattle.std.specs.Cmp.{ranks}
 use Rattle.std.specs.Ordering.{MatchOrdering, is_lt, is_le, is_eq, is_gt, ordering_then, nat_cmp, int_cmp}
 use Rattle.std.specs.List.{ContainsAt as Has}
@@ -11,7 +11,7 @@ use Rattle.table.specs.Ranges.{inside, between, without_between, of_first, count
 use Rattle.table.proofs.Orders.{less_from, every_has}
 use Rattle.table.proofs.Laws.{every_put, every_cut}
 use Rattle.table.proofs.Filters.{kept_same, kept_same_on, every_kept}
-use Rattle.table.proofs.Between.{inner_part}
+use Rattle.table.proofs.Between.{inner_part, outer_parts}
 
 not_true : (t : Bool) → not t ≡ true → t ≡ false
 not_true true h = absurd (true≢false (sym h))
@@ -50,10 +50,10 @@ module _ {A : Type 0} {r : A → A → Ordering} (a : Lawful r) where
   le_le u v w o Greater e f l h = absurd (true≢false (sym h))
 
 module _ {X A B : Type 0} (key : X → A × B) {r : A → A → Ordering} {s : B → B → Ordering} (a : Lawful r) (b : Lawful s) where
-  lower_mono : (p : A) (x y : X) → lexical r s (key x) (key y) ≡ Less → is_lt (r (key y).0 p) ≡ true → is_lt (r (key x).0 p) ≡ true
+  pub lower_mono : (p : A) (x y : X) → lexical r s (key x) (key y) ≡ Less → is_lt (r (key y).0 p) ≡ true → is_lt (r (key x).0 p) ≡ true
   lower_mono p x y l h = le_lt a (key x).0 (key y).0 p (r (key x).0 (key y).0) refl (le_first (r (key x).0 (key y).0) (s (key x).1 (key y).1) l) h
 
-  up_to_mono : (p : A) (x y : X) → lexical r s (key x) (key y) ≡ Less → is_le (r (key y).0 p) ≡ true → is_le (r (key x).0 p) ≡ true
+  pub up_to_mono : (p : A) (x y : X) → lexical r s (key x) (key y) ≡ Less → is_le (r (key y).0 p) ≡ true → is_le (r (key x).0 p) ≡ true
   up_to_mono p x y l h = le_le a (key x).0 (key y).0 p (r (key x).0 (key y).0) (r (key y).0 p) refl refl (le_first (r (key x).0 (key y).0) (s (key x).1 (key y).1) l) h
 
   first_parts : (rows : List X) (p : A) → of_first key r rows p ≡ filter (λ x. not (is_lt (r (key x).0 p)) && is_le (r (key x).0 p)) rows
@@ -94,6 +94,32 @@ module _ {X A B : Type 0} (key : X → A × B) {r : A → A → Ordering} {s : B
   -- a range of second parts under one first part
   pub second_range : (rows : List X) (p : A) (from until : B) → between key (lexical r s) rows (p, from) (p, until) ≡ filter (λ x. is_eq (r (key x).0 p) && inside s from until (key x).1) rows
   second_range rows p from until = kept_same (λ x. inside (lexical r s) (p, from) (p, until) (key x)) (λ x. is_eq (r (key x).0 p) && inside s from until (key x).1) rows (λ x. second_inside (r (key x).0 p) (s (key x).1 from) (s (key x).1 until))
+
+  -- ---- the places of one first part
+  lower_or_same : (rows : List X) (p : A) → length (filter (λ x. is_le (r (key x).0 p)) rows) ≡ count_lower key r rows p + length (of_first key r rows p)
+  lower_or_same [] p = refl
+  lower_or_same (x ∷ xs) p = on (r (key x).0 p) (lower_or_same xs p)
+    where
+      on : (o : Ordering) → length (filter (λ y. is_le (r (key y).0 p)) xs) ≡ count_lower key r xs p + length (of_first key r xs p) → length (cond (is_le o) (x ∷ filter (λ y. is_le (r (key y).0 p)) xs) (filter (λ y. is_le (r (key y).0 p)) xs)) ≡ length (cond (is_lt o) (x ∷ filter (λ y. is_lt (r (key y).0 p)) xs) (filter (λ y. is_lt (r (key y).0 p)) xs)) + length (cond (is_eq o) (x ∷ of_first key r xs p) (of_first key r xs p))
+      on Less ih = omega (arith, ih)
+      on Equal ih = omega (arith, ih)
+      on Greater ih = ih
+
+  -- from the first of them to behind the last one they stand, and all others before and behind
+  pub first_places : (rows : List X) (p : A) (start end : ℕ) → ascending key (lexical r s) rows ≡ true → start ≡ count_lower key r rows p → end ≡ length (filter (λ x. is_le (r (key x).0 p)) rows) → (start ≤ end) × (take (end - start) (drop start rows) ≡ of_first key r rows p) × (take start rows ++ drop end rows ≡ filter (λ x. not (is_eq (r (key x).0 p))) rows)
+  first_places rows p start end up s e =
+      let sum = lower_or_same rows p in
+      let low = λ (x : X). is_lt (r (key x).0 p) in
+      let high = λ (x : X). is_le (r (key x).0 p) in
+      let whole = inner_part key (lexical_lawful a b) low high (lower_mono p) (up_to_mono p) rows up in
+      let others = outer_parts key (lexical_lawful a b) low high (lower_mono p) (up_to_mono p) rows up in
+      let same = first_parts rows p in
+      let many : end - start ≡ length (of_first key r rows p) = omega (arith, sum, s, e) in
+      let last : end ≡ count_lower key r rows p + length (filter (λ x. not (low x) && high x) rows) = omega (arith, sum, s, e, ap length same) in (
+        omega (arith, sum, s, e),
+        ((λ i. take (many i) (drop (s i) rows)) ∙ ap (λ l. take (length l) (drop (count_lower key r rows p) rows)) same ∙ sym whole ∙ sym same),
+        ((λ i. take (s i) rows ++ drop (last i) rows) ∙ sym others ∙ kept_same _ _ rows (λ x. ap not (sym (eq_parts (r (key x).0 p))))),
+      )
 
 -- ---- at numbers
 pub next_number : (p u : ℕ) → is_lt (nat_cmp u (p + 1)) ≡ is_le (nat_cmp u p)
