@@ -20,10 +20,7 @@ fn text_of(bytes: &[u8]) -> Result<&str, Reason> {
         [line @ .., b'\n'] => line,
         _ => bytes,
     };
-    match from_utf8(line) {
-        Ok(text) => Ok(text),
-        Err(_) => Err(Reason::NotText),
-    }
+    from_utf8(line).map_err(|_| Reason::NotText)
 }
 
 impl CallList {

@@ -2,7 +2,7 @@
 ghost use Rattle.std.specs.Prelude.{IfOk};
 ghost use Rattle.call_lists.specs.Parts.{Info, Pointer, Row};
 
-use crate::fields::{kind, signed, signed_or_none, unsigned};
+use crate::fields::{read_number, read_number_or_none};
 use crate::reason::Reason;
 use segment::{CacheInfo, DiskPtr, SnapshotRow};
 
@@ -10,13 +10,14 @@ use segment::{CacheInfo, DiskPtr, SnapshotRow};
 fn read_pointer(offset: &str, blob: &str) -> Result<DiskPtr, Reason>
     ensures { IfOk result (Pointer offset.now blob.now) }
 {
-    let offset = unsigned(offset)?;
-    match signed_or_none(blob)? {
+    let offset = read_number(offset)?;
+    match read_number_or_none(blob)? {
         None => Ok(DiskPtr::Inline(offset)),
         Some(blob) => Ok(DiskPtr::Blob(offset, blob)),
     }
 }
 
+// A text for each field, here and below: the contract names each of them, which a slice or an array of them would not do.
 pub(crate) fn read_info(
     ts: &str,
     lsn: &str,
@@ -26,10 +27,10 @@ pub(crate) fn read_info(
 ) -> Result<CacheInfo, Reason>
     ensures { IfOk result (Info ts.now lsn.now offset.now blob.now size.now) }
 {
-    let ts = unsigned(ts)?;
-    let lsn = signed(lsn)?;
+    let ts = read_number(ts)?;
+    let lsn = read_number(lsn)?;
     let pointer = read_pointer(offset, blob)?;
-    let log_size = unsigned(size)?;
+    let log_size = read_number(size)?;
     Ok(CacheInfo {
         ts,
         lsn,
@@ -39,18 +40,18 @@ pub(crate) fn read_info(
 }
 
 pub(crate) fn read_row(
-    kind_of_row: &str,
+    kind: &str,
     lsn: &str,
     offset: &str,
     blob: &str,
     size: &str,
 ) -> Result<SnapshotRow, Reason>
-    ensures { IfOk result (Row kind_of_row.now lsn.now offset.now blob.now size.now) }
+    ensures { IfOk result (Row kind.now lsn.now offset.now blob.now size.now) }
 {
-    let kind = kind(kind_of_row)?;
-    let lsn = signed(lsn)?;
+    let kind = read_number(kind)?;
+    let lsn = read_number(lsn)?;
     let pointer = read_pointer(offset, blob)?;
-    let size = unsigned(size)?;
+    let size = read_number(size)?;
     Ok(SnapshotRow {
         kind,
         lsn,

@@ -2,11 +2,11 @@
 ghost use Rattle.std.specs.Prelude.{◌≡◌, ◌≤◌, true, length};
 ghost use Rattle.call_lists.specs.Words.{taken};
 
-use crate::fields::{signed, signed_or_none, unsigned, unsigned_or_none};
+use crate::fields::{read_number, read_number_or_none};
 use crate::parts::{read_info, read_row};
 use crate::reason::Reason;
 use crate::stop::Stop;
-use crate::word::{Word, count_fields, read_word};
+use crate::word::{Word, count_fields};
 use segment::{BlobPointer, CacheInfo, LogOffset, Lsn, PageEntry, PageId, SnapshotRow};
 use std::alloc::Global;
 
@@ -60,14 +60,15 @@ pub enum Statement {
     Books,
 }
 
+// The fields are read by index: a pattern of the slice wants a branch for other lengths, which never come here.
 fn read_setup(heap: Global, fields: &[&str]) -> Result<Setup, Stop>
     requires { 2 ≤ length fields.now }
 {
-    let segment_size = unsigned(fields[0])?;
-    let length = unsigned(fields[1])?;
+    let segment_size = read_number(fields[0])?;
+    let length = read_number(fields[1])?;
     let mut blobs = Vec::new(heap);
     for field in &fields[2..] {
-        blobs.push(signed(field)?)?;
+        blobs.push(read_number(field)?)?;
     }
     Ok(Setup {
         segment_size,
@@ -79,8 +80,8 @@ fn read_setup(heap: Global, fields: &[&str]) -> Result<Setup, Stop>
 fn read_page(fields: &[&str]) -> Result<Statement, Reason>
     requires { length fields.now ≡ 2 }
 {
-    let first = unsigned(fields[0])?;
-    let count = unsigned(fields[1])?;
+    let first = read_number(fields[0])?;
+    let count = read_number(fields[1])?;
     Ok(Statement::Part(Part::Page(PageEntry { first, count })))
 }
 
@@ -88,10 +89,10 @@ fn read_start(fields: &[&str]) -> Result<Statement, Reason>
     requires { length fields.now ≡ 4 }
 {
     let start = CallLine::Start {
-        segment_size: unsigned(fields[0])?,
-        header_len: unsigned(fields[1])?,
-        stable_lsn: signed_or_none(fields[2])?,
-        active_segment: unsigned_or_none(fields[3])?,
+        segment_size: read_number(fields[0])?,
+        header_len: read_number(fields[1])?,
+        stable_lsn: read_number_or_none(fields[2])?,
+        active_segment: read_number_or_none(fields[3])?,
     };
     Ok(Statement::Call(start))
 }
@@ -99,7 +100,7 @@ fn read_start(fields: &[&str]) -> Result<Statement, Reason>
 fn read_link(fields: &[&str]) -> Result<Statement, Reason>
     requires { length fields.now ≡ 6 }
 {
-    let page = unsigned(fields[0])?;
+    let page = read_number(fields[0])?;
     let info = read_info(fields[1], fields[2], fields[3], fields[4], fields[5])?;
     Ok(Statement::Call(CallLine::Link { page, info }))
 }
@@ -107,8 +108,8 @@ fn read_link(fields: &[&str]) -> Result<Statement, Reason>
 fn read_replace(fields: &[&str]) -> Result<Statement, Reason>
     requires { length fields.now ≡ 7 }
 {
-    let page = unsigned(fields[0])?;
-    let lsn = signed(fields[1])?;
+    let page = read_number(fields[0])?;
+    let lsn = read_number(fields[1])?;
     let new = read_info(fields[2], fields[3], fields[4], fields[5], fields[6])?;
     Ok(Statement::Call(CallLine::Replace { page, lsn, new }))
 }
@@ -133,15 +134,15 @@ fn worded(heap: Global, word: Word, fields: &[&str]) -> Result<Statement, Stop>
     Ok(match word {
         Word::Memory => Statement::Memory(read_setup(heap, fields)?),
         Word::Queue => Statement::Queue(read_setup(heap, fields)?),
-        Word::Fail => Statement::Fail(unsigned(fields[0])?),
+        Word::Fail => Statement::Fail(read_number(fields[0])?),
         Word::Page => read_page(fields)?,
         Word::Row => read_snapshot_row(fields)?,
         Word::Start => read_start(fields)?,
         Word::Link => read_link(fields)?,
         Word::Old => read_old(fields)?,
         Word::Replace => read_replace(fields)?,
-        Word::Next => Statement::Call(CallLine::Next(signed(fields[0])?)),
-        Word::Stabilize => Statement::Call(CallLine::Stabilize(signed(fields[0])?)),
+        Word::Next => Statement::Call(CallLine::Next(read_number(fields[0])?)),
+        Word::Stabilize => Statement::Call(CallLine::Stabilize(read_number(fields[0])?)),
         Word::Pop => Statement::Call(CallLine::Pop),
         Word::Take => Statement::Take,
         Word::Books => Statement::Books,
@@ -153,16 +154,14 @@ pub fn read_statement(heap: Global, line: &str) -> Result<Option<Statement>, Sto
     if line.starts_with('#') {
         return Ok(None);
     }
-    let mut fields = Vec::new(heap);
-    for field in line.split(' ') {
-        if !field.is_empty() {
-            fields.push(field)?;
-        }
-    }
+    let fields: Vec<&str> = line
+        .split(' ')
+        .filter(|field| !field.is_empty())
+        .collect(heap)?;
     match fields.as_slice() {
         [] => Ok(None),
         [first, rest @ ..] => {
-            let word = read_word(first)?;
+            let word = first.parse::<Word>()?;
             count_fields(word, rest.len())?;
             Ok(Some(worded(heap, word, rest)?))
         }

@@ -5,6 +5,7 @@ ghost use Rattle.call_lists.specs.declared.word.Word.{Word};
 ghost use Rattle.call_lists.specs.Words.{counted, least_of, name_of};
 
 use crate::reason::Reason;
+use std::str::FromStr;
 
 #[derive(Clone, Copy)]
 pub(crate) enum Word {
@@ -24,26 +25,30 @@ pub(crate) enum Word {
     Books,
 }
 
-// The word that is written so.
-pub(crate) fn read_word(text: &str) -> Result<Word, Reason>
-    ensures { MatchResult result (λ w. text.now ≡ name_of w) (λ e. (e ≡ UnknownStatement) × ((w : Word) → text.now ≢ name_of w)) }
-{
-    match text {
-        "memory" => Ok(Word::Memory),
-        "queue" => Ok(Word::Queue),
-        "fail" => Ok(Word::Fail),
-        "page" => Ok(Word::Page),
-        "row" => Ok(Word::Row),
-        "start" => Ok(Word::Start),
-        "link" => Ok(Word::Link),
-        "old" => Ok(Word::Old),
-        "replace" => Ok(Word::Replace),
-        "next" => Ok(Word::Next),
-        "stabilize" => Ok(Word::Stabilize),
-        "pop" => Ok(Word::Pop),
-        "take" => Ok(Word::Take),
-        "books" => Ok(Word::Books),
-        _ => Err(Reason::UnknownStatement),
+impl FromStr for Word {
+    type Err = Reason;
+
+    ghost from_str_gives = { λ text r. MatchResult r (λ w. text ≡ name_of w) (λ e. (e ≡ UnknownStatement) × ((w : Word) → text ≢ name_of w)) };
+
+    // The word that is written so.
+    fn from_str(text: &str) -> Result<Word, Reason> {
+        match text {
+            "memory" => Ok(Word::Memory),
+            "queue" => Ok(Word::Queue),
+            "fail" => Ok(Word::Fail),
+            "page" => Ok(Word::Page),
+            "row" => Ok(Word::Row),
+            "start" => Ok(Word::Start),
+            "link" => Ok(Word::Link),
+            "old" => Ok(Word::Old),
+            "replace" => Ok(Word::Replace),
+            "next" => Ok(Word::Next),
+            "stabilize" => Ok(Word::Stabilize),
+            "pop" => Ok(Word::Pop),
+            "take" => Ok(Word::Take),
+            "books" => Ok(Word::Books),
+            _ => Err(Reason::UnknownStatement),
+        }
     }
 }
 

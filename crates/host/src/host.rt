@@ -4,7 +4,7 @@ ghost use Rattle.host.specs.declared.request.Request.{Request};
 ghost use Rattle.host.specs.declared.request.HostFault.{HostFault};
 ghost use Rattle.host.specs.Meaning.{asked_cut, asked_fill, asked_remove, sight, Obeys, Taken};
 
-use crate::request::{BlobPointer, HostFault, LogOffset};
+use crate::request::{BlobPointer, HostFault, LogOffset, Request};
 
 /// What holds the log file and the blobs.
 pub trait Host {
@@ -26,17 +26,30 @@ pub trait Host {
     // The oldest request that was written down and not yet taken, if any, and the state once it is taken.
     ghost taken: { Model → Option Request × Model };
 
+    /// Asks for the request.
+    fn ask(&mut self, request: Request) -> Result<(), HostFault>
+        ensures { (result, model self.new) ≡ respond (model self.old) request };
+
     /// Asks to cut the file off at the offset.
-    fn cut(&mut self, offset: LogOffset) -> Result<(), HostFault>
-        ensures { (result, model self.new) ≡ respond (model self.old) (asked_cut offset) };
+    final fn cut(&mut self, offset: LogOffset) -> Result<(), HostFault>
+        ensures { (result, model self.new) ≡ respond (model self.old) (asked_cut offset) }
+    {
+        self.ask(Request::Cut(offset))
+    }
 
     /// Asks to zero one segment at the offset.
-    fn fill(&mut self, offset: LogOffset) -> Result<(), HostFault>
-        ensures { (result, model self.new) ≡ respond (model self.old) (asked_fill offset) };
+    final fn fill(&mut self, offset: LogOffset) -> Result<(), HostFault>
+        ensures { (result, model self.new) ≡ respond (model self.old) (asked_fill offset) }
+    {
+        self.ask(Request::Fill(offset))
+    }
 
     /// Asks to take the blob out.
-    fn remove(&mut self, blob: BlobPointer) -> Result<(), HostFault>
-        ensures { (result, model self.new) ≡ respond (model self.old) (asked_remove blob) };
+    final fn remove(&mut self, blob: BlobPointer) -> Result<(), HostFault>
+        ensures { (result, model self.new) ≡ respond (model self.old) (asked_remove blob) }
+    {
+        self.ask(Request::Remove(blob))
+    }
 
     /// The length of the file.
     fn length(&self) -> u64

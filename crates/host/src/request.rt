@@ -1,6 +1,9 @@
 // What a host is asked, and how it refuses.
-ghost use Rattle.std.specs.Prelude.{◌≡◌};
-ghost use Rattle.host.specs.Meaning.{refusal};
+ghost use Rattle.std.specs.Prelude.{◌≡◌, Some};
+ghost use Rattle.host.specs.Meaning.{code_of, layer_of, refusal};
+ghost use Rattle.host.specs.Texts.{text_of};
+
+use std::fmt;
 
 /// A place in the log file.
 pub type LogOffset = u64;
@@ -57,6 +60,43 @@ impl Request {
                 code,
                 layer: 0,
             },
+        }
+    }
+}
+
+impl fmt::Display for Request {
+    ghost output = { λ q. Some (text_of q) };
+
+    /// As a call list writes it.
+    fn fmt<W: fmt::Write>(&self, f: &mut fmt::Formatter<W>) -> fmt::Result {
+        match self {
+            Request::Cut(offset) => write!(f, "cut {offset}"),
+            Request::Fill(offset) => write!(f, "fill {offset}"),
+            Request::Remove(blob) => write!(f, "remove {blob}"),
+        }
+    }
+}
+
+impl HostFault {
+    /// The code of the layer or the host that refused.
+    pub fn code(&self) -> u16
+        ensures { result ≡ code_of self.now }
+    {
+        match self {
+            HostFault::Cut { code, .. }
+            | HostFault::Fill { code, .. }
+            | HostFault::Remove { code, .. } => *code,
+        }
+    }
+
+    /// How many layers stand above the one that refused.
+    pub fn layer(&self) -> u8
+        ensures { result ≡ layer_of self.now }
+    {
+        match self {
+            HostFault::Cut { layer, .. }
+            | HostFault::Fill { layer, .. }
+            | HostFault::Remove { layer, .. } => *layer,
         }
     }
 }

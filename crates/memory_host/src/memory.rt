@@ -8,7 +8,7 @@ ghost use Rattle.std.proofs.Common.{rules};
 use crate::blob::Blob;
 use crate::blob_set::BlobSet;
 use crate::held_blobs::HeldBlobs;
-use host::{BlobPointer, Host, HostFault, LogOffset, Request, TakeRequest};
+use host::{BlobPointer, Host, HostFault, Request, TakeRequest};
 use std::alloc::{AllocError, Global};
 
 /// A file length and the blobs held, in memory. It grants all.
@@ -58,18 +58,14 @@ impl Host for MemoryHost {
 
     ghost taking = { Prim.search rules };
 
-    fn cut(&mut self, offset: LogOffset) -> Result<(), HostFault> {
-        self.length = self.length.min(offset);
-        Ok(())
-    }
-
-    fn fill(&mut self, offset: LogOffset) -> Result<(), HostFault> {
-        self.length = self.length.max(offset.saturating_add(self.segment_size));
-        Ok(())
-    }
-
-    fn remove(&mut self, blob: BlobPointer) -> Result<(), HostFault> {
-        self.blobs.remove(blob);
+    fn ask(&mut self, request: Request) -> Result<(), HostFault> {
+        match request {
+            Request::Cut(offset) => self.length = self.length.min(offset),
+            Request::Fill(offset) => {
+                self.length = self.length.max(offset.saturating_add(self.segment_size));
+            }
+            Request::Remove(blob) => self.blobs.remove(blob),
+        }
         Ok(())
     }
 

@@ -19,30 +19,31 @@ pub trait Notes {
 /// an accountant gives of its host.
 #[derive(Drop)]
 pub struct Log {
-    asked: Cell<Vec<Asked>>,
-    // Whether one could not be written down for want of memory.
-    lost: bool,
+    // None once a request could not be written down for want of memory.
+    asked: Cell<Option<Vec<Asked>>>,
 }
 
 impl Log {
     pub fn new(heap: Global) -> Log {
         Log {
-            asked: Cell::new(Vec::new(heap)),
-            lost: false,
+            asked: Cell::new(Some(Vec::new(heap))),
         }
     }
 
     /// Takes out what was written down; none once a request was lost for want of memory.
     pub fn take_out(&self, heap: Global) -> Option<Vec<Asked>> {
-        let asked = self.asked.replace(Vec::new(heap));
-        if self.lost { None } else { Some(asked) }
+        let asked = self.asked.take()?;
+        self.asked.set(Some(Vec::new(heap)));
+        Some(asked)
     }
 }
 
 impl Notes for Log {
     fn note(&mut self, asked: Asked) {
-        if self.asked.get_mut().push(asked).is_err() {
-            self.lost = true;
+        if let Some(list) = self.asked.get_mut()
+            && list.push(asked).is_err()
+        {
+            self.asked.set(None);
         }
     }
 }

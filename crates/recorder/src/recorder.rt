@@ -4,7 +4,7 @@ ghost use Rattle.recorder.specs.Recorders.{below_of};
 ghost use Rattle.std.proofs.Common.{rules};
 
 use crate::log::{Asked, Notes};
-use host::{BlobPointer, Host, HostFault, LogOffset, Request, TakeRequest};
+use host::{Host, HostFault, Request, TakeRequest};
 use memory_host::{Blob, HeldBlobs};
 
 /// Hands each request on to the host below, and writes it down with its answer. To those above it is what the host below is.
@@ -52,23 +52,8 @@ impl<L: Notes, H: Host> Host for Recorder<L, H> {
 
     ghost taking = { Prim.search rules };
 
-    fn cut(&mut self, offset: LogOffset) -> Result<(), HostFault> {
-        let answer = self.below.cut(offset);
-        let request = Request::Cut(offset);
-        self.log.note(Asked { request, answer });
-        answer
-    }
-
-    fn fill(&mut self, offset: LogOffset) -> Result<(), HostFault> {
-        let answer = self.below.fill(offset);
-        let request = Request::Fill(offset);
-        self.log.note(Asked { request, answer });
-        answer
-    }
-
-    fn remove(&mut self, blob: BlobPointer) -> Result<(), HostFault> {
-        let answer = self.below.remove(blob);
-        let request = Request::Remove(blob);
+    fn ask(&mut self, request: Request) -> Result<(), HostFault> {
+        let answer = self.below.ask(request);
         self.log.note(Asked { request, answer });
         answer
     }

@@ -1,6 +1,6 @@
 // A call list on standard input, read statement by statement.
 use crate::statement::{Statement, read_statement};
-use crate::stop::Stop;
+use call_lists::Stop;
 use std::io::{BufRead, BufReader, Stdin};
 
 #[derive(Drop)]

@@ -4,12 +4,11 @@
 mod call_list;
 mod run;
 mod statement;
-mod stop;
 mod transcript;
 
 use crate::call_list::CallList;
 use crate::run::play;
-use crate::stop::Stop;
+use call_lists::Stop;
 
 // A line that cannot be read is told, and ends the work.
 fn main(rt: HostRuntime) -> Result<(), Stop> {

@@ -1,26 +1,19 @@
 // The runs of a call list: each puts its host together and then does its statements on it.
 use crate::call_list::CallList;
-use crate::statement::{Act, Reason, Setup, Statement};
-use crate::stop::Stop;
+use crate::statement::{Act, Statement};
 use crate::transcript::{write_answer, write_books, write_taken};
-use host::{FailLayer, HostFault, Request, TakeRequest};
+use call_lists::{Reason, Setup, Stop};
+use host::{BlobPointer, FailLayer, TakeRequest};
 use memory_host::{HeldBlobs, MemoryHost, QueueHost};
+use std::alloc::{AllocError, Global};
 
 // How many fail layers there may be.
 const MOST_LAYERS: usize = 4;
 
-fn ask<H: TakeRequest>(host: &mut H, request: Request) -> Result<(), HostFault> {
-    match request {
-        Request::Cut(offset) => host.cut(offset),
-        Request::Fill(offset) => host.fill(offset),
-        Request::Remove(blob) => host.remove(blob),
-    }
-}
-
 fn act<H: TakeRequest + HeldBlobs>(rt: &HostRuntime, host: &mut H, act: Act) -> Result<(), Stop> {
     match act {
         Act::Ask(request) => {
-            let answer = ask(host, request);
+            let answer = host.ask(request);
             write_answer(rt, request, answer)?;
         }
         Act::Take => {
@@ -81,6 +74,7 @@ fn play_run<H: TakeRequest + HeldBlobs + Drop>(
     bottom: H,
 ) -> Result<Option<Statement>, Stop> {
     let (layers, first) = read_layers(rt, list, &bottom)?;
+    // An arm for each height: the piles have types of their own, and rt ci refuses a function that makes a dyn host and hands it out.
     match layers.as_slice() {
         [] => act_on(rt, list, bottom, first),
         [a] => act_on(rt, list, FailLayer::new(*a, bottom), first),
@@ -106,23 +100,20 @@ fn play_run<H: TakeRequest + HeldBlobs + Drop>(
     }
 }
 
-fn play_memory(
+// Plays one run over a bottom host that is made as the setup says.
+fn play_over<H, F>(
     rt: &HostRuntime,
     list: &mut CallList,
     setup: &Setup,
-) -> Result<Option<Statement>, Stop> {
+    make: F,
+) -> Result<Option<Statement>, Stop>
+where
+    H: TakeRequest + HeldBlobs + Drop,
+    F: FnOnce(Global, u64, u64, &[BlobPointer]) -> Result<H, AllocError>,
+    requires { F.IsAlwaysCallable make }
+{
     let blobs = setup.blobs.as_slice();
-    let host = MemoryHost::new(rt.alloc(), setup.segment_size, setup.length, blobs)?;
-    play_run(rt, list, host)
-}
-
-fn play_queue(
-    rt: &HostRuntime,
-    list: &mut CallList,
-    setup: &Setup,
-) -> Result<Option<Statement>, Stop> {
-    let blobs = setup.blobs.as_slice();
-    let host = QueueHost::new(rt.alloc(), setup.segment_size, setup.length, blobs)?;
+    let host = make(rt.alloc(), setup.segment_size, setup.length, blobs)?;
     play_run(rt, list, host)
 }
 
@@ -134,11 +125,11 @@ pub(crate) fn play(rt: &HostRuntime, list: &mut CallList) -> Result<(), Stop> {
             None => return Ok(()),
             Some(Statement::Memory(setup)) => {
                 println!(rt; "run {number}")?;
-                statement = play_memory(rt, list, &setup)?;
+                statement = play_over(rt, list, &setup, MemoryHost::new)?;
             }
             Some(Statement::Queue(setup)) => {
                 println!(rt; "run {number}")?;
-                statement = play_queue(rt, list, &setup)?;
+                statement = play_over(rt, list, &setup, QueueHost::new)?;
             }
             Some(_) => return Err(Stop::Unread(Reason::NoRunYet)),
         }

@@ -1,42 +1,9 @@
 // The statements of a call list, read from one line each.
-use crate::stop::Stop;
+use call_lists::{Reason, Setup, Stop};
 use host::Request;
 use std::alloc::Global;
-use std::fmt;
-
-// Why a line cannot be read, or cannot be done where it stands.
-#[derive(Clone, Copy, PartialEq, Eq, Debug)]
-pub(crate) enum Reason {
-    UnknownStatement,
-    MissingField,
-    SurplusField,
-    NotANumber,
-    NoRunYet,
-    FailAfterCall,
-    TooManyLayers,
-}
-
-impl fmt::Display for Reason {
-    fn fmt<W: fmt::Write>(&self, f: &mut fmt::Formatter<W>) -> fmt::Result {
-        f.write_str(match self {
-            Reason::UnknownStatement => "unknown statement",
-            Reason::MissingField => "missing field",
-            Reason::SurplusField => "surplus field",
-            Reason::NotANumber => "not a number",
-            Reason::NoRunYet => "no run yet",
-            Reason::FailAfterCall => "fail after a call",
-            Reason::TooManyLayers => "more than 4 fail layers",
-        })
-    }
-}
-
-// What a bottom host is made with.
-#[derive(Drop)]
-pub(crate) struct Setup {
-    pub segment_size: u64,
-    pub length: u64,
-    pub blobs: Vec<i64>,
-}
+use std::num::ParseIntError;
+use std::str::FromStr;
 
 #[derive(Drop)]
 pub(crate) enum Statement {
@@ -54,18 +21,9 @@ pub(crate) enum Act {
     Books,
 }
 
-fn unsigned(field: &str) -> Result<u64, Reason> {
-    match field.parse::<u64>() {
-        Ok(n) => Ok(n),
-        Err(_) => Err(Reason::NotANumber),
-    }
-}
-
-fn signed(field: &str) -> Result<i64, Reason> {
-    match field.parse::<i64>() {
-        Ok(n) => Ok(n),
-        Err(_) => Err(Reason::NotANumber),
-    }
+// A number in decimal digits; a sign may stand in front.
+fn read_number<N: FromStr<Err = ParseIntError>>(field: &str) -> Result<N, Reason> {
+    field.parse::<N>().map_err(|_| Reason::NotANumber)
 }
 
 // The one field that a statement has.
@@ -81,11 +39,11 @@ fn read_setup(heap: Global, fields: &[&str]) -> Result<Setup, Stop> {
     let [segment_size, length, rest @ ..] = fields else {
         return Err(Stop::Unread(Reason::MissingField));
     };
-    let segment_size = unsigned(segment_size)?;
-    let length = unsigned(length)?;
+    let segment_size = read_number(segment_size)?;
+    let length = read_number(length)?;
     let mut blobs = Vec::new(heap);
     for field in rest {
-        blobs.push(signed(field)?)?;
+        blobs.push(read_number(field)?)?;
     }
     Ok(Setup {
         segment_size,
@@ -111,10 +69,10 @@ fn worded(heap: Global, word: &str, fields: &[&str]) -> Result<Statement, Stop> 
     match word {
         "memory" => Ok(Statement::Memory(read_setup(heap, fields)?)),
         "queue" => Ok(Statement::Queue(read_setup(heap, fields)?)),
-        "fail" => Ok(Statement::Fail(unsigned(only(fields)?)?)),
-        "cut" => Ok(asked(Request::Cut(unsigned(only(fields)?)?))),
-        "fill" => Ok(asked(Request::Fill(unsigned(only(fields)?)?))),
-        "remove" => Ok(asked(Request::Remove(signed(only(fields)?)?))),
+        "fail" => Ok(Statement::Fail(read_number(only(fields)?)?)),
+        "cut" => Ok(asked(Request::Cut(read_number(only(fields)?)?))),
+        "fill" => Ok(asked(Request::Fill(read_number(only(fields)?)?))),
+        "remove" => Ok(asked(Request::Remove(read_number(only(fields)?)?))),
         "take" => bare(fields, Act::Take),
         "books" => bare(fields, Act::Books),
         _ => Err(Stop::Unread(Reason::UnknownStatement)),
@@ -126,12 +84,10 @@ pub(crate) fn read_statement(heap: Global, line: &str) -> Result<Option<Statemen
     if line.starts_with('#') {
         return Ok(None);
     }
-    let mut fields = Vec::new(heap);
-    for field in line.split(' ') {
-        if !field.is_empty() {
-            fields.push(field)?;
-        }
-    }
+    let fields: Vec<&str> = line
+        .split(' ')
+        .filter(|field| !field.is_empty())
+        .collect(heap)?;
     match fields.as_slice() {
         [] => Ok(None),
         [word, rest @ ..] => Ok(Some(worded(heap, word, rest)?)),

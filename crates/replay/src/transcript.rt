@@ -1,41 +1,18 @@
 // The lines of a transcript.
 use host::{HostFault, Request};
 use memory_host::{Blob, HeldBlobs};
-use std::{fmt, io};
-
-// A request with its place.
-#[derive(Clone, Copy)]
-struct Asked(Request);
-
-impl fmt::Display for Asked {
-    fn fmt<W: fmt::Write>(&self, f: &mut fmt::Formatter<W>) -> fmt::Result {
-        match self.0 {
-            Request::Cut(offset) => write!(f, "cut {offset}"),
-            Request::Fill(offset) => write!(f, "fill {offset}"),
-            Request::Remove(blob) => write!(f, "remove {blob}"),
-        }
-    }
-}
-
-fn code_and_layer(fault: HostFault) -> (u16, u8) {
-    match fault {
-        HostFault::Cut { code, layer, .. } => (code, layer),
-        HostFault::Fill { code, layer, .. } => (code, layer),
-        HostFault::Remove { code, layer, .. } => (code, layer),
-    }
-}
+use std::io;
 
 pub(crate) fn write_answer(
     rt: &HostRuntime,
     request: Request,
     answer: Result<(), HostFault>,
 ) -> io::Result<()> {
-    let asked = Asked(request);
     match answer {
-        Ok(()) => println!(rt; "asked {asked}: granted"),
+        Ok(()) => println!(rt; "asked {request}: granted"),
         Err(fault) => {
-            let (code, layer) = code_and_layer(fault);
-            println!(rt; "asked {asked}: refused code {code} layer {layer}")
+            let (code, layer) = (fault.code(), fault.layer());
+            println!(rt; "asked {request}: refused code {code} layer {layer}")
         }
     }
 }
@@ -43,10 +20,7 @@ pub(crate) fn write_answer(
 pub(crate) fn write_taken(rt: &HostRuntime, taken: Option<Request>) -> io::Result<()> {
     match taken {
         None => println!(rt; "take: none"),
-        Some(request) => {
-            let asked = Asked(request);
-            println!(rt; "take: {asked}")
-        }
+        Some(request) => println!(rt; "take: {request}"),
     }
 }
 

@@ -11,7 +11,7 @@ use super::QueueHost;
 use crate::blob::Blob;
 use crate::held_blobs::HeldBlobs;
 use crate::memory::MemoryHost;
-use host::{BlobPointer, Host, HostFault, LogOffset, Request, TakeRequest};
+use host::{BlobPointer, Host, HostFault, Request, TakeRequest};
 use std::alloc::{AllocError, Global};
 
 const PLACES: usize = 64;
@@ -32,7 +32,7 @@ fn note(requests: &mut Vec<Request>, request: Request) -> Result<(), HostFault>
     Ok(())
 }
 
-// Takes the oldest request out.
+// Takes the oldest request out. The list is no VecDeque: that has no one slice of its items, which `queued` answers.
 fn next(requests: &mut Vec<Request>) -> Option<Request>
     ensures value { result ≡ oldest requests.old.items }
     ensures items { requests.new.items ≡ later requests.old.items }
@@ -88,19 +88,9 @@ impl Host for QueueHost {
 
     ghost taking = { first_of (Prim.search rules, Prim.grind (arith, Self.row.coded.inj)) };
 
-    fn cut(&mut self, offset: LogOffset) -> Result<(), HostFault> {
-        note(&mut self.requests, Request::Cut(offset))?;
-        self.memory.cut(offset)
-    }
-
-    fn fill(&mut self, offset: LogOffset) -> Result<(), HostFault> {
-        note(&mut self.requests, Request::Fill(offset))?;
-        self.memory.fill(offset)
-    }
-
-    fn remove(&mut self, blob: BlobPointer) -> Result<(), HostFault> {
-        note(&mut self.requests, Request::Remove(blob))?;
-        self.memory.remove(blob)
+    fn ask(&mut self, request: Request) -> Result<(), HostFault> {
+        note(&mut self.requests, request)?;
+        self.memory.ask(request)
     }
 
     fn length(&self) -> u64 {
