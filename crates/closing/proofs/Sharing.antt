@@ -1,8 +1,6 @@
 -- Draining by share: the Inactive segments, counted and the last of them found, one after the other.
-use Rattle.std.proofs.Common.{◌≡◌, ℕ, suc, ◌+◌, ◌-◌, ◌<◌, ◌≤◌, Bool, true, false, cond, List, [], ◌∷◌, length, get_or, take, drop, Some, None, filter, Option, sym, refl, ap, ◌∙◌, subst, arith}
-use Rattle.std.specs.Option.{option_map}
-use Rattle.std.proofs.lemmas.List.Filters.{length-filter_more}
-use Rattle.std.proofs.lemmas.List.{get_or-map, length-map, drop_more, drop_all}
+use Rattle.std.proofs.Common.{◌≡◌, ℕ, zero, suc, ◌+◌, ◌-◌, ◌<◌, ◌≤◌, Bool, true, false, cond, List, [], ◌∷◌, length, get_or, Some, None, filter, Option, sym, refl, ap, ◌∙◌, subst, arith, add-zero, zero-add}
+use Rattle.std.specs.Option.{option_map, MatchOption}
 use Rattle.segment.specs.declared.segment.Segment.{Segment}
 use Rattle.segment.specs.declared.state.Inactive.{Inactive}
 use Rattle.segment.specs.declared.state.State.{State}
@@ -12,36 +10,44 @@ use Rattle.rules.specs.Stabilizing.{free_below_tip, inactive_at, inactive_count,
 use Rattle.ledger.specs.States.{states}
 use Rattle.closing.specs.Shares.{number_from, Drains}
 
-pub state_there : (xs : List Segment) (i : ℕ) (d : Segment) → i < length xs → get_or (states xs) i unused ≡ (get_or xs i d).state
-state_there xs i d l = get_or-map (λ x. x.state) xs i d unused l
-
-pub state_read : (xs : List Segment) (i : ℕ) (s : Segment) → i < length xs → s ≡ get_or xs i s → get_or (states xs) i unused ≡ s.state
-state_read xs i s l e = state_there xs i s l ∙ sym (ap (λ x. x.state) e)
-
-pub there : (xs : List Segment) (i : ℕ) → i < length xs → i < length (states xs)
-there xs i l = let m = length-map xs (λ (x : Segment). x.state) in omega arith
-
 -- ---- how many are Inactive
-pub count_more : (xs : List Segment) (i : ℕ) (s : Segment) → i < length xs → s ≡ get_or xs i s → length (filter is_inactive (take (i + 1) (states xs))) ≡ length (filter is_inactive (take i (states xs))) + cond (is_inactive s.state) 1 0
-count_more xs i s l e = length-filter_more is_inactive (states xs) i unused (there xs i l) ∙ ap (λ x. length (filter is_inactive (take i (states xs))) + cond (is_inactive x) 1 0) (state_read xs i s l e)
+pub length-filter_states : (p : State → Bool) (xs : List Segment) → length (filter (λ (x : Segment). p x.state) xs) ≡ length (filter p (states xs))
+length-filter_states p [] = refl
+length-filter_states p (x ∷ xs) = one (p x.state) (length-filter_states p xs)
+  where
+    one : (b : Bool) → length (filter (λ (x : Segment). p x.state) xs) ≡ length (filter p (states xs)) → length (cond b (x ∷ filter (λ (x : Segment). p x.state) xs) (filter (λ (x : Segment). p x.state) xs)) ≡ length (cond b (x.state ∷ filter p (states xs)) (filter p (states xs)))
+    one true e = ap suc e
+    one false e = e
 
 -- ---- the last of them
-one_more : (o : Option (ℕ × Inactive)) (s : State) (i : ℕ) (found : Option ℕ) → first_some (option_map (λ x. x.0) o) (cond (is_inactive s) (Some i) found) ≡ first_some (option_map (λ x. x.0) (first_some o (inactive_at i s))) found
-one_more (Some x) s i found = refl
-one_more None (is.Free f) i found = refl
-one_more None (is.Active a) i found = refl
-one_more None (is.Inactive j) i found = refl
-one_more None (is.Draining d) i found = refl
+-- o is the place of the last one
+abbrev pub IsLast : List Segment → Option ℕ → Type 0
+IsLast xs o =
+    MatchOption o ((d : Segment) (k : ℕ) → k < length xs → is_inactive (get_or xs k d).state ≡ false)
+    (λ i. (i < length xs) × ((d : Segment) → is_inactive (get_or xs i d).state ≡ true) × ((d : Segment) (k : ℕ) → i < k → k < length xs → is_inactive (get_or xs k d).state ≡ false))
 
-pub found_more : (l : List State) (i : ℕ) (found : Option ℕ) (t : Bool) → i < length l → is_inactive (get_or l i unused) ≡ t → first_some (number_from (i + 1) (drop (i + 1) l)) (cond t (Some i) found) ≡ first_some (number_from i (drop i l)) found
-found_more l i found t h e =
-    let n : i + 1 ≡ suc i = omega arith in
-    (λ k. first_some (number_from (n k) (drop (i + 1) l)) (cond (sym e k) (Some i) found))
-    ∙ (one_more (last_inactive (suc i) (drop (i + 1) l)) (get_or l i unused) i found
-    ∙ ap (λ m. first_some (number_from i m) found) (sym (drop_more l i unused h)))
+one_more : (n : ℕ) (o : Option (ℕ × Inactive)) (s : State) → first_some (option_map (λ x. x.0) o) (cond (is_inactive s) (Some n) None) ≡ option_map (λ x. x.0) (first_some o (inactive_at n s))
+one_more n (Some x) s = refl
+one_more n None (is.Free f) = refl
+one_more n None (is.Active a) = refl
+one_more n None (is.Inactive j) = refl
+one_more n None (is.Draining d) = refl
 
-pub found_last : (l : List State) (i : ℕ) (found : Option ℕ) → length l ≤ i → first_some (number_from i (drop i l)) found ≡ number_from 0 l → found ≡ number_from 0 l
-found_last l i found h e = sym (ap (λ m. first_some (number_from i m) found) (drop_all i l h)) ∙ e
+number_step : (n : ℕ) (s : State) (l : List State) (o : Option ℕ) (t : Bool) → o ≡ number_from (suc n) l → is_inactive s ≡ t → first_some o (cond t (Some n) None) ≡ number_from n (s ∷ l)
+number_step n s l o t e f = (λ k. first_some (e k) (cond (sym f k) (Some n) None)) ∙ one_more n (last_inactive (suc n) l) s
+
+number_last : (n : ℕ) (xs : List Segment) (o : Option ℕ) → IsLast xs o → option_map (λ i. n + i) o ≡ number_from n (states xs)
+number_last n [] None h = refl
+number_last n [] (Some i) h = absurd (omega (arith, h.0))
+number_last n (x ∷ xs) None h = number_step n x.state (states xs) None false (number_last (suc n) xs None (λ d k l. h d (suc k) (omega arith))) (h x 0 (omega arith))
+number_last n (x ∷ xs) (Some zero) h = ap Some (add-zero n) ∙ number_step n x.state (states xs) None true (number_last (suc n) xs None (λ d k l. h.2 d (suc k) (omega arith) (omega arith))) (h.1 x)
+number_last n (x ∷ xs) (Some (suc i)) h =
+    let e : n + suc i ≡ suc n + i = omega arith in
+    ap Some e ∙ number_step n x.state (states xs) (Some (suc n + i)) (is_inactive x.state) (number_last (suc n) xs (Some i) (omega (arith, h.0), λ d. h.1 d, λ d k m l. h.2 d (suc k) (omega arith) (omega arith))) refl
+
+pub number_found : (xs : List Segment) (o : Option ℕ) → IsLast xs o → o ≡ number_from 0 (states xs)
+number_found xs None h = number_last 0 xs None h
+number_found xs (Some i) h = ap Some (sym (zero-add i)) ∙ number_last 0 xs (Some i) h
 
 -- ---- the one that is found is Inactive
 abbrev Found : ℕ → List State → Option (ℕ × Inactive) → Type 0

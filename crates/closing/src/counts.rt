@@ -12,13 +12,7 @@ use table::Table;
 fn left_in(rows: &[PageRow]) -> u64
     ensures { result ≡ length (filter (λ row. row.left) rows.now) }
 {
-    let mut count = 0;
-    for row in rows {
-        if row.left {
-            count += 1;
-        }
-    }
-    count
+    rows.iter().filter(|row| row.left).count() as u64
 }
 
 pub fn page_count(pages: &Table<PageRow, MAX_PAGE_ROWS>, n: SegmentId) -> u64

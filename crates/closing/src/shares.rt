@@ -19,26 +19,20 @@ fn inactive_in(segments: &[Segment]) -> u64
     ensures value { result ≡ length (filter is_inactive (states segments.now)) }
     ensures most { result ≤ length segments.now }
 {
-    let mut count = 0;
-    for segment in segments {
-        if is_inactive(&segment.state) {
-            count += 1;
-        }
-    }
-    count
+    segments
+        .iter()
+        .filter(|segment| is_inactive(&segment.state))
+        .count() as u64
 }
 
 // The last of the segments that is Inactive.
 fn last_in(segments: &[Segment]) -> Option<SegmentId>
     ensures { result ≡ number_from 0 (states segments.now) }
 {
-    let mut found = None;
-    for i in 0..segments.len() {
-        if is_inactive(&segments[i].state) {
-            found = Some(i as u64);
-        }
-    }
-    found
+    segments
+        .iter()
+        .rposition(|segment| is_inactive(&segment.state))
+        .map(|n| n as SegmentId)
 }
 
 pub fn inactive_count(ledger: &Ledger) -> u64

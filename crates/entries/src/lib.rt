@@ -10,8 +10,9 @@ mod spare;
 mod sums;
 mod taking;
 
+pub use ledger::out_of_range;
 pub use links::check_link;
-pub use lsns::{lsns_outside, out_of_range};
+pub use lsns::lsns_outside;
 pub use recording::{link, record_replacement};
 pub use replaces::check_replace;
 pub use spare::SpareBlobs;

@@ -22,21 +22,11 @@ use segment::{CacheInfo, Lsn, PageId, base};
 
 pub const MAX_OLDS: usize = 256;
 
-fn is_too_large(info: &CacheInfo) -> bool
-    ensures { result ≡ too_large info.now.log_size }
-{
-    info.log_size > MAX_SIZE
-}
-
+// Whether an entry is too large.
 fn some_too_large(infos: &[CacheInfo]) -> bool
     ensures { result ≡ not (every (λ info. not (too_large info.log_size)) infos.now) }
 {
-    for info in infos {
-        if is_too_large(info) {
-            return true;
-        }
-    }
-    false
+    infos.iter().any(|info| info.log_size > MAX_SIZE)
 }
 
 // Why the call itself is refused: its two LSNs differ, or its old entries are too many or too large.

@@ -1,17 +1,12 @@
--- A walk along a list for the first element that passes a test: what is left of the list decides.
-use Rattle.std.proofs.Common.{◌≡◌, ℕ, ◌+◌, ◌<◌, ◌≤◌, Bool, true, false, cond, List, ◌∷◌, length, get_or, drop, Some, None, filter, Option, sym, ap, ◌∙◌}
-use Rattle.std.proofs.lemmas.List.{drop_more, drop_all}
+-- The first element that passes a test is the first of those that pass.
+use Rattle.std.proofs.Common.{◌≡◌, Bool, true, false, cond, List, [], ◌∷◌, Some, filter, Option, refl}
+use Rattle.std.specs.List.{find}
 use Rattle.table.specs.Rows.{first_of}
 
-module _ {X : Type 0} (p : X → Bool) (xs : List X) (i : ℕ) {first : Option X} (inv : first_of (filter p (drop i xs)) ≡ first) where
-  ahead : (d : X) → i < length xs → first_of (cond (p (get_or xs i d)) (get_or xs i d ∷ filter p (drop (i + 1) xs)) (filter p (drop (i + 1) xs))) ≡ first
-  ahead d l = ap (λ ys. first_of (filter p ys)) (sym (drop_more xs i d l)) ∙ inv
+first_by : {X : Type 0} (b : Bool) (x : X) (r : Option X) (xs : List X) → r ≡ first_of xs → cond b (Some x) r ≡ first_of (cond b (x ∷ xs) xs)
+first_by true x r xs e = refl
+first_by false x r xs e = e
 
-  pub first_stop : (d : X) → i < length xs → p (get_or xs i d) ≡ true → Some (get_or xs i d) ≡ first
-  first_stop d l t = ap (λ b. first_of (cond b (get_or xs i d ∷ filter p (drop (i + 1) xs)) (filter p (drop (i + 1) xs)))) (sym t) ∙ ahead d l
-
-  pub first_more : (d : X) → i < length xs → p (get_or xs i d) ≡ false → first_of (filter p (drop (i + 1) xs)) ≡ first
-  first_more d l t = ap (λ b. first_of (cond b (get_or xs i d ∷ filter p (drop (i + 1) xs)) (filter p (drop (i + 1) xs)))) (sym t) ∙ ahead d l
-
-  pub first_end : length xs ≤ i → None ≡ first
-  first_end l = ap (λ ys. first_of (filter p ys)) (sym (drop_all i xs l)) ∙ inv
+pub find_is_first : {X : Type 0} (p : X → Bool) (xs : List X) → find p xs ≡ first_of (filter p xs)
+find_is_first p [] = refl
+find_is_first p (x ∷ xs) = first_by (p x) x (find p xs) (filter p xs) (find_is_first p xs)

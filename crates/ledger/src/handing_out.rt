@@ -67,12 +67,10 @@ fn first_queued(pages: &Table<PageRow, MAX_PAGE_ROWS>, n: SegmentId) -> Option<P
     requires { n < 2 ^ 63 }
     ensures { result ≡ first_of (queue_of n (held pages.now)) }
 {
-    for row in between(pages, (n, 0), (n + 1, 0)) {
-        if row.queued {
-            return Some(*row);
-        }
-    }
-    None
+    between(pages, (n, 0), (n + 1, 0))
+        .iter()
+        .find(|row| row.queued)
+        .copied()
 }
 
 impl Ledger {

@@ -6,10 +6,12 @@ mod handing_out;
 mod ledger;
 mod linking;
 mod lookup;
+mod lsns;
 mod making;
 mod room;
 mod segments;
 
 pub use ledger::{Ledger, MAX_BLOB_ROWS, MAX_PAGE_ROWS, MAX_SEGMENTS};
+pub use lsns::out_of_range;
 pub use room::put;
 pub use segments::Segments;

@@ -1,8 +1,8 @@
 -- Entries that cover the rows in turn never lead past them.
-use Rattle.std.proofs.Common.{◌≡◌, ℕ, zero, suc, ◌+◌, ◌<◌, ◌≤◌, true, false, ◌&&◌, eqb, List, [], ◌∷◌, length, get_or, take, drop, Some, None, sym, ap, ◌∙◌, arith}
+use Rattle.std.proofs.Common.{◌≡◌, ℕ, zero, suc, ◌+◌, ◌<◌, ◌≤◌, Bool, true, false, ◌&&◌, eqb, List, [], ◌∷◌, length, get_or, take, drop, Some, None, Option, is_some, sym, ap, ◌∙◌, arith}
 use Rattle.std.proofs.lemmas.List.{at_drop_more, at_drop_all}
 use Rattle.std.proofs.lemmas.Bool.{and_parts, and_left, and_right, eqb-true, eq-eqb, ne_eqb, lt-ltb, le-leb}
-use Rattle.segment.specs.Pages.{no_entry, page_rows}
+use Rattle.segment.specs.Pages.{no_entry, page_rows, page_state}
 use Rattle.segment.specs.declared.snapshot.PageEntry.{PageEntry}
 use Rattle.segment.specs.declared.snapshot.SnapshotRow.{SnapshotRow}
 use Rattle.rules.specs.Starting.{covers}
@@ -58,6 +58,11 @@ part_there directory rows page h l =
 
 pub led_to : (directory : List PageEntry) (rows : List SnapshotRow) (page : ℕ) → covers 0 directory (length rows) ≡ true → page < length directory → page_rows directory rows page ≡ None → ⊥
 led_to directory rows page h l e = let p = part_there directory rows page h l in let z : ◌≡◌ {A = ℕ} 0 1 = cc in omega arith
+
+-- whether a page is formed of the rows, if they are there
+abbrev pub forms : Option (List SnapshotRow) → Bool
+forms None = false
+forms (Some part) = is_some (page_state part)
 
 pub part_is : (directory : List PageEntry) (rows part : List SnapshotRow) (page : ℕ) → covers 0 directory (length rows) ≡ true → page < length directory → Some part ≡ page_rows directory rows page → part ≡ take (get_or directory page no_entry).count (drop (get_or directory page no_entry).first rows)
 part_is directory rows part page h l e = let p : Some part ≡ Some (take (get_or directory page no_entry).count (drop (get_or directory page no_entry).first rows)) = e ∙ part_there directory rows page h l in cc

@@ -1,10 +1,9 @@
 // The checks of single numbers.
 ghost use Rattle.std.specs.Prelude.{◌≡◌, ◌≤◌};
-ghost use Rattle.rules.specs.Links.{out_of_range};
 ghost use Rattle.rules.specs.Starting.{is_segment_size, is_header, in_segments, segment_count, active_past};
 ghost use Rattle.recovery.specs.Plans.{sized};
 
-use segment::{LogOffset, Lsn};
+use segment::LogOffset;
 
 // A power of two from 256 to 16,777,216.
 pub fn is_segment_size(size: u64) -> bool
@@ -17,13 +16,6 @@ pub fn is_header(header_len: u64) -> bool
     ensures { result ≡ is_header header_len }
 {
     header_len >= 1 && header_len <= 4096
-}
-
-// An LSN that no caller may hand over.
-pub fn out_of_range(lsn: Lsn) -> bool
-    ensures { result ≡ out_of_range lsn }
-{
-    lsn < 0 || lsn >= 4_611_686_018_427_387_904
 }
 
 // A length in segments, rounded up.
@@ -56,8 +48,5 @@ pub fn active_past(segment_size: u64, active: Option<LogOffset>, count: u64) -> 
     requires { 256 ≤ segment_size }
     ensures { result ≡ active_past (sized segment_size active) count active }
 {
-    match active {
-        Some(offset) => offset / segment_size >= count,
-        None => false,
-    }
+    active.is_some_and(|offset| offset / segment_size >= count)
 }

@@ -9,22 +9,23 @@ ghost use Rattle.recovery.specs.Placing.{state_refusal, opened_refusal};
 
 use ledger::Ledger;
 use rules::Refusal;
-use segment::{Lsn, PageId, SegmentId, SnapshotRow, State, base};
+use segment::{Lsn, PageId, RowKind, SegmentId, SnapshotRow, State, base};
 
 // The bytes of a row: a free page takes a header.
 pub fn row_size(header_len: u64, row: &SnapshotRow) -> u64
     ensures { result ≡ row_size header_len row.now }
 {
-    if row.kind == 2 { header_len } else { row.size }
+    if row.row_kind() == Some(RowKind::Free) {
+        header_len
+    } else {
+        row.size
+    }
 }
 
 fn has_base(state: &State, base: Lsn) -> bool
     ensures { result ≡ has_base base state.now }
 {
-    match state {
-        State::Active(active) => active.is_at(base),
-        _ => false,
-    }
+    matches!(state, State::Active(active) if active.is_at(base))
 }
 
 fn bytes_in(state: &State) -> u64

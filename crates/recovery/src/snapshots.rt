@@ -5,35 +5,21 @@ ghost use Rattle.segment.specs.Pages.{no_entry};
 ghost use Rattle.rules.specs.Starting.{stable_out_of_range, covers, forms_page};
 ghost use Rattle.recovery.specs.Plans.{in_range};
 
-use crate::checks::out_of_range;
+use ledger::out_of_range;
 use segment::{Lsn, PageEntry, SnapshotRow, page_rows, page_state};
-
-fn in_range(row: &SnapshotRow) -> bool
-    ensures { result ≡ in_range row.now }
-{
-    !out_of_range(row.lsn)
-}
 
 // Whether the LSN of every row is in range.
 fn rows_in_range(rows: &[SnapshotRow]) -> bool
     ensures { result ≡ every in_range rows.now }
 {
-    for row in rows {
-        if !in_range(row) {
-            return false;
-        }
-    }
-    true
+    rows.iter().all(|row| !out_of_range(row.lsn))
 }
 
 // Whether the stable LSN or that of a row is out of range.
 pub fn lsns_out_of_range(stable: Option<Lsn>, rows: &[SnapshotRow]) -> bool
     ensures { result ≡ (stable_out_of_range stable || not (every in_range rows.now)) }
 {
-    match stable {
-        Some(lsn) if out_of_range(lsn) => true,
-        _ => !rows_in_range(rows),
-    }
+    stable.is_some_and(|lsn| out_of_range(lsn)) || !rows_in_range(rows)
 }
 
 // Whether the entries cover so many rows in turn.
@@ -59,10 +45,7 @@ fn forms_page(directory: &[PageEntry], rows: &[SnapshotRow], page: usize) -> boo
     requires listed { page < length directory.now }
     ensures { result ≡ forms_page rows.now (slice_index_or directory.now page no_entry) }
 {
-    match page_rows(directory, rows, page) {
-        Some(part) => page_state(part).is_some(),
-        None => false,
-    }
+    page_rows(directory, rows, page).is_some_and(|part| page_state(part).is_some())
 }
 
 // Whether the rows of every page form one.
@@ -70,10 +53,5 @@ pub fn forms_pages(directory: &[PageEntry], rows: &[SnapshotRow]) -> bool
     requires { covers 0 directory.now (length rows.now) ≡ true }
     ensures { result ≡ every (forms_page rows.now) directory.now }
 {
-    for page in 0..directory.len() {
-        if !forms_page(directory, rows, page) {
-            return false;
-        }
-    }
-    true
+    (0..directory.len()).all(|page| forms_page(directory, rows, page))
 }

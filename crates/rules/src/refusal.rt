@@ -45,6 +45,7 @@ impl From<HostFault> for Refusal {
 
 impl Refusal {
     /// The number of the refusal.
+    // A match and no cast: one case carries a value, and an enum with such a case has no number of its own.
     pub fn number(&self) -> u8
         ensures { result ≡ number_of self.now }
     {

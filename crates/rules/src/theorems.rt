@@ -4,22 +4,16 @@ ghost use Rattle.rules.specs.Refused.{RefusalsComeInOrder};
 ghost use Rattle.rules.specs.Worked.{WorkedRunsComeOut};
 
 /// The runs worked by hand come out as they were worked.
-pub fn worked_runs_come_out() -> u8
+pub fn worked_runs_come_out()
     ensures { WorkedRunsComeOut }
-{
-    0
-}
+{}
 
 /// Each refusal comes, and before those that are checked later.
-pub fn refusals_come_in_order() -> u8
+pub fn refusals_come_in_order()
     ensures { RefusalsComeInOrder }
-{
-    0
-}
+{}
 
 /// The recount of the runs worked by hand is what was counted by hand.
-pub fn recount_of_worked_runs() -> u8
+pub fn recount_of_worked_runs()
     ensures { RecountOfWorkedRuns }
-{
-    0
-}
+{}

@@ -1,9 +1,11 @@
 -- The pages of a snapshot: which rows form one.
-use Rattle.std.specs.Prelude.{ℕ, ◌+◌, Bool, cond, List, [], ◌∷◌, length, take, drop, Some, None, Option, ◌==◌, nat_eq, nat_le, nat_lt, slice_index_or}
+use Rattle.std.specs.Prelude.{◌≡◌, ℕ, ◌+◌, Bool, cond, List, [], ◌∷◌, length, take, drop, Some, None, Option, Result, ◌==◌, nat_eq, nat_le, nat_lt, slice_index_or}
+use Rattle.std.specs.Option.{ok_or}
 use Rattle.table.specs.Rows.{every}
 use Rattle.segment.specs.declared.snapshot.SnapshotRow.{SnapshotRow}
 use Rattle.segment.specs.declared.snapshot.PageEntry.{PageEntry}
 use Rattle.segment.specs.declared.snapshot.RowKind.{RowKind}
+use Rattle.segment.specs.declared.snapshot.UnknownKind.{UnknownKind}
 use Rattle.segment.specs.declared.snapshot.RowKind.TheVariants as kind
 use Rattle.segment.specs.declared.snapshot.PageState.{PageState}
 use Rattle.segment.specs.declared.snapshot.PageState.TheVariants as page
@@ -15,6 +17,10 @@ kind_at n =
     (cond (n == 1) (Some kind.Fragment)
     (cond (n == 2) (Some kind.Free)
     (cond (n == 3) (Some kind.Uninitialized) None)))
+
+-- the kind of this number, or the number where it stands for none
+abbrev pub Names : ℕ → Result RowKind UnknownKind → Type 0
+Names n r = r ≡ ok_or (kind_at n) (record { 0 = n })
 
 abbrev pub kind_of : SnapshotRow → Option RowKind
 kind_of row = kind_at row.kind

@@ -31,8 +31,7 @@ impl DiskPtr {
         ensures { result ≡ lid_of self.now }
     {
         match self {
-            DiskPtr::Inline(lid) => *lid,
-            DiskPtr::Blob(lid, _) => *lid,
+            DiskPtr::Inline(lid) | DiskPtr::Blob(lid, _) => *lid,
         }
     }
 

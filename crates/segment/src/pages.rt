@@ -1,34 +1,40 @@
 // The pages of a snapshot, read from its directory and rows.
 ghost use Rattle.std.specs.Prelude.{◌≡◌};
 ghost use Rattle.std.specs.Option.{option_map};
-ghost use Rattle.segment.specs.Pages.{kind_of, fragments_only, page_by, page_rows, page_state, shown};
+ghost use Rattle.segment.specs.Pages.{Names, kind_of, fragments_only, page_by, page_rows, page_state, shown};
 
-use crate::snapshot::{PageEntry, PageState, RowKind, SnapshotRow};
+use crate::snapshot::{PageEntry, PageState, RowKind, SnapshotRow, UnknownKind};
+
+impl TryFrom<u8> for RowKind {
+    type Error = UnknownKind;
+
+    ghost try_from_gives = { Names };
+
+    fn try_from(number: u8) -> Result<RowKind, UnknownKind> {
+        match number {
+            0 => Ok(RowKind::Base),
+            1 => Ok(RowKind::Fragment),
+            2 => Ok(RowKind::Free),
+            3 => Ok(RowKind::Uninitialized),
+            _ => Err(UnknownKind(number)),
+        }
+    }
+}
 
 impl SnapshotRow {
     // The kind that the row's number stands for.
     pub fn row_kind(&self) -> Option<RowKind>
         ensures { result ≡ kind_of self.now }
     {
-        match self.kind {
-            0 => Some(RowKind::Base),
-            1 => Some(RowKind::Fragment),
-            2 => Some(RowKind::Free),
-            3 => Some(RowKind::Uninitialized),
-            _ => None,
-        }
+        RowKind::try_from(self.kind).ok()
     }
 }
 
 fn all_fragments(rows: &[SnapshotRow]) -> bool
     ensures { result ≡ fragments_only rows.now }
 {
-    for row in rows {
-        if row.kind != 1 {
-            return false;
-        }
-    }
-    true
+    rows.iter()
+        .all(|row| row.row_kind() == Some(RowKind::Fragment))
 }
 
 // The page that begins with this row and goes on with those.
@@ -63,13 +69,7 @@ pub fn page_rows<'a>(
 ) -> Option<&'a [SnapshotRow]>
     ensures { option_map (λ x. x.now) result ≡ page_rows directory.now rows.now page }
 {
-    if page >= directory.len() {
-        return None;
-    }
-    let PageEntry { first, count } = directory[page];
-    let end = first.checked_add(count)? as usize;
-    if end > rows.len() {
-        return None;
-    }
-    Some(&rows[first as usize..end])
+    let PageEntry { first, count } = *directory.get(page)?;
+    let end = first.checked_add(count)?;
+    rows.get(first as usize..end as usize)
 }

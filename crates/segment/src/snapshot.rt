@@ -12,13 +12,17 @@ pub struct SnapshotRow {
 }
 
 // What a row is to its page.
-#[derive(Clone, Copy)]
+#[derive(Clone, Copy, PartialEq, Eq, Debug)]
 pub enum RowKind {
     Base,
     Fragment,
     Free,
     Uninitialized,
 }
+
+// A number that stands for no kind of row.
+#[derive(Clone, Copy, PartialEq, Eq, Debug)]
+pub struct UnknownKind(pub u8);
 
 // The rows of one page: the place of the first, and how many there are.
 #[derive(Clone, Copy)]

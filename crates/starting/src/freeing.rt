@@ -14,20 +14,11 @@ use ledger::Ledger;
 use segment::{SegmentId, State};
 use upkeep::World;
 
-fn is_free_state(state: &State) -> bool
-    ensures { result ≡ is_free state.now }
-{
-    matches!(state, State::Free(_))
-}
-
 // Whether segment n is Free; one that is not reached is.
 fn is_free(ledger: &Ledger, n: SegmentId) -> bool
     ensures { result ≡ is_free (state_of (books_of ledger.now) n) }
 {
-    match ledger.state(n) {
-        Some(state) => is_free_state(state),
-        None => true,
-    }
+    matches!(ledger.state(n), None | Some(State::Free(_)))
 }
 
 // The host is asked to fill segment n, unless its cut was just asked: then the tip is not above it.

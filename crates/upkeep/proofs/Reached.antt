@@ -1,15 +1,14 @@
 -- The numbers and the room that a step finds in books that keep their order and bounds.
 use Rattle.std.proofs.Common.{◌≡◌, ℕ, ◌*◌, ◌^◌, ◌<◌, ◌≤◌, true, false, cond, length, sym, refl, ap, ◌∙◌, subst, true≢false, mul-le-mul, arith}
-use Rattle.std.proofs.lemmas.Bool.{and_parts, leb-true}
+use Rattle.std.proofs.lemmas.Bool.{leb-true}
 use Rattle.table.specs.Rows.{insert_row, own_key}
 use Rattle.segment.specs.declared.state.Inactive.{Inactive}
 use Rattle.segment.specs.declared.state.State.{State}
 use Rattle.segment.specs.declared.state.State.TheVariants as is
-use Rattle.rules.specs.Books.{Books, unused, state_of, offset_of}
+use Rattle.rules.specs.Books.{Books, state_of, offset_of}
 use Rattle.rules.specs.Cleaning.{start_draining, drain_by, drain_if_empty}
 use Rattle.rules.specs.Stabilizing.{is_inactive}
-use Rattle.orders.specs.Within.{Within, KeptWithin, is_bounded, is_lsn}
-use Rattle.orders.proofs.Every.{every_index}
+use Rattle.orders.specs.Within.{Within, KeptWithin}
 use Rattle.orders.proofs.Replaces.{reached}
 use Rattle.orders.proofs.BoundStarts.{within_steps}
 use Rattle.orders.proofs.Rooms.{at_most}
@@ -51,15 +50,6 @@ listed_room n b h e =
     let m = at_most own_key b.size (length (start_draining n x.0 b).segments) (start_draining n x.0 b).listed k.0.listed k.1.listed in
     let r = leb-true (length (start_draining n x.0 b).segments) 256 k.1.reached in
     omega arith
-
--- every state keeps its bounds, and so live bytes are few
-pub state_bounded : (n : ℕ) (b : Books) → Within b → is_bounded (state_of b n) ≡ true
-state_bounded n b w = every_index is_bounded b.segments n unused refl w.states
-
-pub inactive_bytes : (i : Inactive) → is_bounded (is.Inactive i) ≡ true → i.rss ≤ 2 ^ 40
-inactive_bytes i g =
-    let l = and_parts (is_lsn i.lsn) _ g in
-    leb-true i.rss (2 ^ 40) (and_parts (is_lsn i.latest_replacement_lsn) _ l.1).1
 
 -- what is drained is Inactive
 pub drained_inactive : (size : ℕ) (s : State) → is_drained size s ≡ true → is_inactive s ≡ true

@@ -1,5 +1,5 @@
 // A segment starts draining, and becomes Free once none of its pages is left.
-ghost use Rattle.std.specs.Prelude.{◌≡◌, ◌^◌, ◌<◌, ◌≤◌, true, false, length};
+ghost use Rattle.std.specs.Prelude.{◌≡◌, ◌^◌, ◌<◌, ◌≤◌, true, length};
 ghost use Rattle.segment.specs.Changes.{drained, emptied};
 ghost use Rattle.segment.specs.declared.state.Inactive.{Inactive as InactiveRecord};
 ghost use Rattle.segment.specs.declared.state.Draining.{Draining as DrainingRecord};
@@ -7,7 +7,7 @@ ghost use Rattle.segment.specs.declared.state.State.TheVariants as is;
 ghost use Rattle.rules.specs.Books.{state_of};
 ghost use Rattle.rules.specs.Cleaning.{half_empty, start_draining, drain_if_empty, is_active, holder, emptied_at, held_by};
 ghost use Rattle.rules.specs.Stabilizing.{is_inactive};
-ghost use Rattle.orders.specs.Within.{KeptWithin, is_bounded};
+ghost use Rattle.orders.specs.Within.{KeptWithin};
 ghost use Rattle.ledger.specs.Ledgers.{books_of};
 ghost use Rattle.upkeep.specs.Drains.{is_drained, all_left};
 
@@ -50,27 +50,15 @@ fn is_half_empty(inactive: &Inactive, segment_size: u64) -> bool
     inactive.rss * 100 / segment_size <= SEGMENT_CLEANUP_THRESHOLD
 }
 
-// Whether the state is Inactive with at most half of the segment live.
-fn is_drained_state(state: &State, segment_size: u64) -> bool
-    requires size { 0 < segment_size }
-    requires bytes { is_bounded state.now ≡ true }
-    ensures { result ≡ is_drained segment_size state.now }
-{
-    match state {
-        State::Inactive(inactive) => is_half_empty(inactive, segment_size),
-        _ => false,
-    }
-}
-
 // Whether segment n is Inactive and at most half of it is live.
 fn is_drained(ledger: &Ledger, n: SegmentId) -> bool
     requires { KeptWithin (books_of ledger.now) }
     ensures { result ≡ is_drained ledger.now.segment_size (state_of (books_of ledger.now) n) }
 {
-    match ledger.state(n) {
-        Some(state) => is_drained_state(state, ledger.segment_size),
-        None => false,
-    }
+    matches!(
+        ledger.state(n),
+        Some(State::Inactive(inactive)) if is_half_empty(inactive, ledger.segment_size)
+    )
 }
 
 // Segment n starts draining if it is Inactive and at most half of it is live.
@@ -83,35 +71,23 @@ pub fn drain_if_empty(ledger: &mut Ledger, n: SegmentId)
     }
 }
 
-// Of a Draining state whose pages have all left, the LSN of its latest replacement.
-fn all_left_state(state: &State) -> Option<Lsn>
-    ensures { result ≡ all_left state.now }
+// Of segment n, if it is Draining and its pages have all left, the LSN of its latest replacement.
+pub fn all_left(ledger: &Ledger, n: SegmentId) -> Option<Lsn>
+    ensures { result ≡ all_left (state_of (books_of ledger.now) n) }
 {
-    match state {
-        State::Draining(draining) if draining.replaced_pids == draining.max_pids => {
+    match ledger.state(n) {
+        Some(State::Draining(draining)) if draining.replaced_pids == draining.max_pids => {
             Some(draining.latest_replacement_lsn)
         }
         _ => None,
     }
 }
 
-// The same of segment n.
-pub fn all_left(ledger: &Ledger, n: SegmentId) -> Option<Lsn>
-    ensures { result ≡ all_left (state_of (books_of ledger.now) n) }
+// Whether segment n is Active.
+pub(crate) fn is_active_at(ledger: &Ledger, n: SegmentId) -> bool
+    ensures { result ≡ is_active (state_of (books_of ledger.now) n) }
 {
-    match ledger.state(n) {
-        Some(state) => all_left_state(state),
-        None => None,
-    }
-}
-
-pub(crate) fn is_active(state: &State) -> bool
-    ensures { result ≡ is_active state.now }
-{
-    match state {
-        State::Active(_) => true,
-        _ => false,
-    }
+    matches!(ledger.state(n), Some(State::Active(_)))
 }
 
 // The Active segment that the ordering has under this LSN.
@@ -121,10 +97,7 @@ pub fn holder(ledger: &Ledger, lsn: Lsn) -> Option<SegmentId>
 {
     let row = ledger.ordering.get(lsn)?;
     let n = ledger.segment_id(row.offset);
-    match ledger.state(n) {
-        Some(state) if is_active(state) => Some(n),
-        _ => None,
-    }
+    is_active_at(ledger, n).then_some(n)
 }
 
 // The segment, Free if it was Draining, and the LSN that it had.

@@ -3,14 +3,13 @@ ghost use Rattle.std.specs.Prelude.{◌≡◌, ◌<◌, false, not, ◌&&◌, po
 ghost use Rattle.segment.specs.declared.state.Active.{Active as ActiveRecord};
 ghost use Rattle.segment.specs.declared.state.State.TheVariants as is;
 ghost use Rattle.rules.specs.Books.{state_of, with_stabilized, world};
-ghost use Rattle.rules.specs.Cleaning.{is_active};
 ghost use Rattle.rules.specs.Links.{out_of_range};
 ghost use Rattle.rules.specs.Stabilizing.{drained_by_share, remove_blobs, opened_up, shut, shared, deactivated, deactivate_all, stabilized_at};
 ghost use Rattle.orders.specs.Share.{Shared};
 ghost use Rattle.ledger.specs.Ledgers.{books_of};
 ghost use Rattle.upkeep.specs.Worlds.{seen};
 
-use crate::draining::{is_active, start_draining};
+use crate::draining::{is_active_at, start_draining};
 use crate::world::World;
 use closing::{
     Ripe, blobs_of, close_at, drop_blobs, gather_ripe, is_settled, level, number_of_lsn,
@@ -28,16 +27,6 @@ fn remove_blobs<H: Host>(host: &mut H, rows: &[BlobRow]) -> Result<(), HostFault
         host.remove(row.blob)?;
     }
     Ok(())
-}
-
-// Whether segment n is Active.
-fn is_active_at(ledger: &Ledger, n: SegmentId) -> bool
-    ensures { result ≡ is_active (state_of (books_of ledger.now) n) }
-{
-    match ledger.state(n) {
-        Some(state) => is_active(state),
-        None => false,
-    }
 }
 
 // Where much is free, the last Inactive segment starts draining.

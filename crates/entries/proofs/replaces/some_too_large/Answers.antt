@@ -1,14 +1,14 @@
--- One step of the walk, its early end and its end.
-use Rattle.std.proofs.Common.{not, sym, ap}
-use Rattle.segment.proofs.Walks.{every_more, every_stop, every_end}
-use Rattle.entries.proofs.Summing.{small}
+-- The walk over the entries, by the test of one.
+use Rattle.std.proofs.Common.{rules, tests, ◌∙◌}
+use Rattle.std.proofs.lemmas.Iterator.{YieldsList-from_slice}
+use Rattle.std.proofs.lemmas.Iterator.Search.{any_from_yields_List}
+use Rattle.segment.proofs.Walks.{any_is_not_every}
+use Rattle.segment.specs.declared.cache_info.CacheInfo.{CacheInfo}
+use Rattle.rules.specs.Links.{too_large}
 use Rattle.entries.proofs.replaces.some_too_large.Goals as goal
 
-pub returns-then-is_too_large : goal.returns-then-is_too_large
-returns-then-is_too_large c = ap not (every_stop small _ c.loop-info.info-index _ c.loop-info.invariant c.loop-info-test.true (ap not (sym c.if-is_too_large.ensures)))
-
-pub loop-info-preserved : goal.loop-info-preserved
-loop-info-preserved c = every_more small _ c.loop-info.info-index _ c.loop-info.invariant c.loop-info-test.true (ap not (sym c.if-is_too_large.ensures))
-
 pub returns : goal.returns
-returns c = ap not (every_end small _ c.loop-info.info-index c.loop-info.invariant c.loop-info-test.false)
+returns c =
+    let large = λ (info : CacheInfo). too_large info.log_size in
+    any_from_yields_List large _ _ _ c.any.ensures.ran (YieldsList-from_slice c.args.infos.now (cc)) (λ x b q k. search (rules, tests))
+    ∙ any_is_not_every large c.args.infos.now

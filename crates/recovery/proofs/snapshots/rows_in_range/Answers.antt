@@ -1,14 +1,12 @@
--- One step of the walk, its early end and its end.
-use Rattle.std.proofs.Common.{sym}
-use Rattle.segment.proofs.Walks.{every_more, every_stop, every_end}
+-- The walk over the rows, by the test of one.
+use Rattle.std.proofs.Common.{rules, tests, ◌∙◌}
+use Rattle.std.proofs.lemmas.Iterator.{YieldsList-from_slice}
+use Rattle.std.proofs.lemmas.Iterator.Search.{all_from_yields_List}
+use Rattle.segment.proofs.Walks.{all_is_every}
 use Rattle.recovery.specs.Plans.{in_range}
 use Rattle.recovery.proofs.snapshots.rows_in_range.Goals as goal
 
-pub returns-then-not-in_range : goal.returns-then-not-in_range
-returns-then-not-in_range c = every_stop in_range _ c.loop-row.row-index _ c.loop-row.invariant c.loop-row-test.true (sym c.if-not-in_range.ensures)
-
-pub loop-row-preserved : goal.loop-row-preserved
-loop-row-preserved c = every_more in_range _ c.loop-row.row-index _ c.loop-row.invariant c.loop-row-test.true (sym c.if-not-in_range.ensures)
-
 pub returns : goal.returns
-returns c = every_end in_range _ c.loop-row.row-index c.loop-row.invariant c.loop-row-test.false
+returns c =
+    all_from_yields_List in_range _ _ _ c.all.ensures.ran (YieldsList-from_slice c.args.rows.now (cc)) (λ x b q k. search (rules, tests))
+    ∙ all_is_every in_range c.args.rows.now

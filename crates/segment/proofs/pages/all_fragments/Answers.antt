@@ -1,14 +1,12 @@
--- One step of the walk, its early end and its end.
-use Rattle.std.proofs.Common.{eqb}
-use Rattle.std.proofs.lemmas.Bool.{eq-eqb, ne_eqb}
-use Rattle.segment.proofs.Walks.{every_more, every_stop, every_end}
+-- The walk over the rows, by the test of one.
+use Rattle.std.proofs.Common.{rules, tests, nat_eq, ◌∙◌}
+use Rattle.std.proofs.lemmas.Iterator.{YieldsList-from_slice}
+use Rattle.std.proofs.lemmas.Iterator.Search.{all_from_yields_List}
+use Rattle.segment.specs.declared.snapshot.SnapshotRow.{SnapshotRow}
+use Rattle.segment.proofs.Walks.{all_is_every}
 use Rattle.segment.proofs.pages.all_fragments.Goals as goal
 
-pub returns-then-row-ne1 : goal.returns-then-row-ne1
-returns-then-row-ne1 c = every_stop (λ row. eqb row.kind 1) _ c.loop-row.row-index _ c.loop-row.invariant c.loop-row-test.true (ne_eqb _ _ c.if-row-ne1.true)
-
-pub loop-row-preserved : goal.loop-row-preserved
-loop-row-preserved c = every_more (λ row. eqb row.kind 1) _ c.loop-row.row-index _ c.loop-row.invariant c.loop-row-test.true (eq-eqb _ _ c.if-row-ne1.false)
-
 pub returns : goal.returns
-returns c = every_end (λ row. eqb row.kind 1) _ c.loop-row.row-index c.loop-row.invariant c.loop-row-test.false
+returns c =
+    all_from_yields_List (λ (row : SnapshotRow). nat_eq row.kind 1) _ _ _ c.all.ensures.ran (YieldsList-from_slice c.args.rows.now (cc)) (λ x b q k. search (rules, tests))
+    ∙ all_is_every (λ (row : SnapshotRow). nat_eq row.kind 1) c.args.rows.now
