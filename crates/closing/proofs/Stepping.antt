@@ -4,15 +4,12 @@ use Rattle.std.proofs.lemmas.List.{get_or-take, get_or-drop, length-take-le, len
 use Rattle.std.proofs.lemmas.Bool.{and_parts, not-true}
 use Rattle.table.specs.Order.{Lawful}
 use Rattle.table.specs.Rows.{every, ascending, place, find, insert_row}
-use Rattle.table.specs.Ranges.{between, without_between}
 use Rattle.table.specs.declared.owner.Full.{Full}
 use Rattle.table.proofs.Orders.{rank_same, every_at}
 use Rattle.table.proofs.Places.{place_at}
 use Rattle.table.proofs.Edits.{found_by, put_of}
-use Rattle.table.proofs.Pairs.{unsigned_range, unsigned_without}
-use Rattle.segment.specs.Rows.{page_key, by_page}
 use Rattle.segment.specs.declared.rows.PageRow.{PageRow}
-use Rattle.rules.specs.Pages.{is_in, queued_row, rows_off}
+use Rattle.rules.specs.Pages.{is_in, queued_row, rows_of, rows_off}
 use Rattle.closing.specs.Queued.{queued_if}
 
 module _ {X : Type 0} (f : X → X) where
@@ -111,17 +108,17 @@ pub left_alone : (x y : PageRow) → x ≡ y → x.left ≡ true → y ≡ queue
 left_alone x y e l = sym (ap (λ t. cond (not t) (queued_row true y) y) (sym (ap (λ r. r.left) e) ∙ l))
 
 -- the rows before the range of segment n, and those behind it, are of other segments
-pub outside_range : (n start end : ℕ) (slice pages : List PageRow) → slice ≡ pages → take start slice ++ drop end slice ≡ without_between page_key by_page slice (n, 0) (n + 1, 0) → (every (λ row. not (is_in n row)) (take start pages) ≡ true) × (every (λ row. not (is_in n row)) (drop end pages) ≡ true)
+pub outside_range : (n start end : ℕ) (slice pages : List PageRow) → slice ≡ pages → take start slice ++ drop end slice ≡ rows_off n slice → (every (λ row. not (is_in n row)) (take start pages) ≡ true) × (every (λ row. not (is_in n row)) (drop end pages) ≡ true)
 outside_range n start end slice pages e h =
-    let g : take start pages ++ drop end pages ≡ rows_off n pages = (λ k. take start (sym e k) ++ drop end (sym e k)) ∙ h ∙ unsigned_without page_key slice n ∙ ap (rows_off n) e in
+    let g : take start pages ++ drop end pages ≡ rows_off n pages = (λ k. take start (sym e k) ++ drop end (sym e k)) ∙ h ∙ ap (rows_off n) e in
     every_parts (λ row. not (is_in n row)) (take start pages) (drop end pages) (ap (every (λ row. not (is_in n row))) g ∙ kept_pass (λ row. not (is_in n row)) pages)
 
 -- those of the range are of segment n
-pub inside_range : (n start end i : ℕ) (slice pages : List PageRow) (d : PageRow) → slice ≡ pages → take (end - start) (drop start slice) ≡ between page_key by_page slice (n, 0) (n + 1, 0) → start ≤ i → i < end → end ≤ length slice → is_in n (get_or pages i d) ≡ true
+pub inside_range : (n start end i : ℕ) (slice pages : List PageRow) (d : PageRow) → slice ≡ pages → take (end - start) (drop start slice) ≡ rows_of n slice → start ≤ i → i < end → end ≤ length slice → is_in n (get_or pages i d) ≡ true
 inside_range n start end i slice pages d e h l u w =
     let m : length (drop start slice) ≡ length slice - start = length-drop start slice in
     let k : length (take (end - start) (drop start slice)) ≡ end - start = length-take-le (end - start) (drop start slice) (omega arith) in
-    let a : every (is_in n) (take (end - start) (drop start slice)) ≡ true = ap (every (is_in n)) (h ∙ unsigned_range page_key slice n) ∙ kept_pass (is_in n) slice in
+    let a : every (is_in n) (take (end - start) (drop start slice)) ≡ true = ap (every (is_in n)) h ∙ kept_pass (is_in n) slice in
     let x = every_at (is_in n) (take (end - start) (drop start slice)) (i - start) d a (omega arith) in
     let j : start + (i - start) ≡ i = omega arith in
     let s : get_or (take (end - start) (drop start slice)) (i - start) d ≡ get_or pages i d = get_or-take (end - start) (drop start slice) (i - start) d (omega arith) ∙ get_or-drop start slice (i - start) d ∙ (λ t. get_or (e t) (j t) d) in

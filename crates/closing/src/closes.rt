@@ -1,21 +1,17 @@
 // Closing a segment: it becomes Inactive, and its blob rows go.
 ghost use Rattle.std.specs.Prelude.{◌≡◌, ◌<◌, ◌≤◌, true, length};
 ghost use Rattle.table.specs.Held.{held};
-ghost use Rattle.table.specs.Ranges.{floored, least_signed};
 ghost use Rattle.segment.specs.Changes.{closed};
-ghost use Rattle.segment.specs.Rows.{blob_key, by_signed};
 ghost use Rattle.segment.specs.declared.state.Active.{Active};
 ghost use Rattle.segment.specs.declared.state.State.TheVariants as is;
 ghost use Rattle.rules.specs.Books.{with_blobs, state_of};
 ghost use Rattle.rules.specs.Stabilizing.{blobs_of, blobs_off, closed_at};
 ghost use Rattle.ledger.specs.Ledgers.{books_of};
-ghost use Rattle.std.specs.Ordering.{int_cmp};
 
 use crate::counts::{left_count, page_count};
-use ledger::{Ledger, MAX_BLOB_ROWS};
-use ranges::{between, remove_between};
+use ledger::Ledger;
+use ranges::{of_first, remove_of_first};
 use segment::{BlobRow, Segment, SegmentId, State};
-use table::Table;
 
 // The segment, Inactive if it was Active.
 fn shut(segment: Segment, max_pids: u64, replaced_pids: u64) -> Segment
@@ -32,8 +28,7 @@ fn shut(segment: Segment, max_pids: u64, replaced_pids: u64) -> Segment
 
 // Segment n, which is Active, becomes Inactive.
 pub fn close_at(ledger: &mut Ledger, n: SegmentId)
-    requires reached { n < length (books_of ledger.old).segments }
-    requires small { n < 256 }
+    requires { n < length (books_of ledger.old).segments }
     ensures { (a : Active) → state_of (books_of ledger.old) n ≡ is.Active a → books_of ledger.new ≡ closed_at n a (books_of ledger.old) }
 {
     let max_pids = page_count(&ledger.pages, n);
@@ -46,26 +41,14 @@ pub fn close_at(ledger: &mut Ledger, n: SegmentId)
 
 // The blob rows of segment n.
 pub fn blobs_of(ledger: &Ledger, n: SegmentId) -> &[BlobRow]
-    requires { n < 256 }
     ensures { result.now ≡ blobs_of n (held ledger.now.blobs) }
 {
-    between(&ledger.blobs, (n, i64::MIN), (n + 1, i64::MIN))
-}
-
-// Without the blob rows of segment n.
-fn without_blobs(blobs: &mut Table<BlobRow, MAX_BLOB_ROWS>, n: SegmentId)
-    requires floor { floored blob_key int_cmp (held blobs.old) least_signed ≡ true }
-    requires small { n < 256 }
-    ensures floor { floored blob_key int_cmp (held blobs.new) least_signed ≡ true }
-    ensures rows { held blobs.new ≡ blobs_off n (held blobs.old) }
-{
-    remove_between(blobs, (n, i64::MIN), (n + 1, i64::MIN));
+    of_first(&ledger.blobs, n)
 }
 
 // The blob rows of segment n go.
 pub fn drop_blobs(ledger: &mut Ledger, n: SegmentId)
-    requires { n < 256 }
     ensures { books_of ledger.new ≡ with_blobs (blobs_off n (held ledger.old.blobs)) (books_of ledger.old) }
 {
-    without_blobs(&mut ledger.blobs, n);
+    remove_of_first(&mut ledger.blobs, n);
 }

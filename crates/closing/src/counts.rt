@@ -4,7 +4,7 @@ ghost use Rattle.table.specs.Held.{held};
 ghost use Rattle.rules.specs.Pages.{page_count, left_count};
 
 use ledger::MAX_PAGE_ROWS;
-use ranges::between;
+use ranges::of_first;
 use segment::{PageRow, SegmentId};
 use table::Table;
 
@@ -16,15 +16,13 @@ fn left_in(rows: &[PageRow]) -> u64
 }
 
 pub fn page_count(pages: &Table<PageRow, MAX_PAGE_ROWS>, n: SegmentId) -> u64
-    requires { n < 256 }
     ensures { result ≡ page_count n (held pages.now) }
 {
-    between(pages, (n, 0), (n + 1, 0)).len() as u64
+    of_first(pages, n).len() as u64
 }
 
 pub fn left_count(pages: &Table<PageRow, MAX_PAGE_ROWS>, n: SegmentId) -> u64
-    requires { n < 256 }
     ensures { result ≡ left_count n (held pages.now) }
 {
-    left_in(between(pages, (n, 0), (n + 1, 0)))
+    left_in(of_first(pages, n))
 }

@@ -5,7 +5,7 @@ ghost use Rattle.rules.specs.Pages.{all_queued};
 ghost use Rattle.closing.specs.Queued.{queued_if};
 
 use ledger::MAX_PAGE_ROWS;
-use ranges::bounds;
+use ranges::first_part_bounds;
 use segment::{PageRow, SegmentId};
 use table::{Key, Row, Table};
 
@@ -38,10 +38,9 @@ fn queue_at(pages: &mut Table<PageRow, MAX_PAGE_ROWS>, i: usize)
 
 // The pages of segment n that have not left are queued.
 pub fn queue_all(pages: &mut Table<PageRow, MAX_PAGE_ROWS>, n: SegmentId)
-    requires { n < 256 }
     ensures { held pages.new ≡ all_queued n (held pages.old) }
 {
-    let (start, end) = bounds(pages.rows(), (n, 0), (n + 1, 0));
+    let (start, end) = first_part_bounds(pages.rows(), n);
     for i in start..end {
         queue_at(pages, i);
     }

@@ -1,6 +1,5 @@
 // Freeing a segment, and lowering the tip over the free ones at the end.
 ghost use Rattle.std.specs.Prelude.{◌≡◌, ◌-◌, ◌*◌, ◌^◌, ◌<◌, ◌≤◌, true, length, Ok, Err, ◌≢◌};
-ghost use Rattle.host.specs.Meaning.{code_of, layer_of};
 ghost use Rattle.table.specs.Held.{held};
 ghost use Rattle.rules.specs.Books.{with_faults};
 ghost use Rattle.rules.specs.Freeing.{put_free, unordered, can_cut, lowered, remembered};
@@ -9,7 +8,7 @@ ghost use Rattle.ledger.specs.Ledgers.{books_of};
 use crate::ledger::{Ledger, MAX_SEGMENTS};
 use crate::room::put;
 use host::HostFault;
-use ranges::remove_between;
+use ranges::remove_of_first;
 use segment::{FaultRow, Free, LogOffset, OrderingRow, SegmentId, State};
 use table::Table;
 
@@ -27,29 +26,17 @@ fn unorder(ordering: &mut Table<OrderingRow, MAX_SEGMENTS>, state: &State)
     }
 }
 
-// The code of a fault, and how many layers stand above the one that refused.
-fn code_and_layer(fault: HostFault) -> (u16, u8)
-    ensures { result ≡ (code_of fault, layer_of fault) }
-{
-    match fault {
-        HostFault::Cut { code, layer, .. } => (code, layer),
-        HostFault::Fill { code, layer, .. } => (code, layer),
-        HostFault::Remove { code, layer, .. } => (code, layer),
-    }
-}
-
 impl Ledger {
     // Segment n, which is Free, is unlisted, its page rows and its ordering row go, and its offset joins the free list.
     pub fn put_free(&mut self, n: SegmentId)
         requires reached { n < length (books_of self.old).segments }
-        requires small { n < 256 }
         requires fits { n * self.old.segment_size < 2 ^ 64 }
         requires room { length (put_free n (books_of self.old)).free ≤ 256 }
         ensures { books_of self.new ≡ put_free n (books_of self.old) }
     {
         let offset = n * self.segment_size;
         unorder(&mut self.ordering, &self.segments.at(n).state);
-        remove_between(&mut self.pages, (n, 0), (n + 1, 0));
+        remove_of_first(&mut self.pages, n);
         self.listed.remove(offset);
         put(&mut self.free, offset);
     }
@@ -80,13 +67,12 @@ impl Ledger {
         requires { length (remembered offset (Err fault) (books_of self.old).faults) ≤ 256 }
         ensures { books_of self.new ≡ with_faults (remembered offset (Err fault) (books_of self.old).faults) (books_of self.old) }
     {
-        let (code, layer) = code_and_layer(fault);
         put(
             &mut self.faults,
             FaultRow {
                 offset,
-                code,
-                layer,
+                code: fault.code(),
+                layer: fault.layer(),
             },
         );
     }

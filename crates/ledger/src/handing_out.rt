@@ -18,7 +18,7 @@ use crate::ledger::{Ledger, MAX_PAGE_ROWS, MAX_SEGMENTS};
 use crate::room::put;
 use crate::segments::Segments;
 use host::HostFault;
-use ranges::between;
+use ranges::of_first;
 use rules::Refusal;
 use segment::{Free, LogOffset, Lsn, OrderingRow, PageId, PageRow, Segment, SegmentId, State};
 use table::Table;
@@ -64,13 +64,9 @@ fn enter(segments: &mut Segments, n: SegmentId, lsn: Lsn)
 
 // The first queued page of segment n.
 fn first_queued(pages: &Table<PageRow, MAX_PAGE_ROWS>, n: SegmentId) -> Option<PageRow>
-    requires { n < 2 ^ 63 }
     ensures { result ≡ first_of (queue_of n (held pages.now)) }
 {
-    between(pages, (n, 0), (n + 1, 0))
-        .iter()
-        .find(|row| row.queued)
-        .copied()
+    of_first(pages, n).iter().find(|row| row.queued).copied()
 }
 
 impl Ledger {
@@ -78,16 +74,11 @@ impl Ledger {
     fn settle(&mut self) -> Result<(), HostFault>
         ensures { (result, books_of self.new) ≡ settled (books_of self.old).faults (books_of self.old) }
     {
-        match self.faults.first() {
+        let fault = self.lowest_fault();
+        self.faults.clear();
+        match fault {
             None => Ok(()),
-            Some(row) => {
-                self.faults.clear();
-                Err(HostFault::Cut {
-                    offset: row.offset,
-                    code: row.code,
-                    layer: row.layer,
-                })
-            }
+            Some(fault) => Err(fault),
         }
     }
 
@@ -150,8 +141,7 @@ impl Ledger {
 
     // The lowest queued page of the segment at this offset; the segment is unlisted where no page is queued.
     fn pop_from(&mut self, offset: LogOffset) -> Option<(PageId, LogOffset)>
-        requires size { 0 < self.old.segment_size }
-        requires small { segment_of (books_of self.old) offset < 256 }
+        requires { 0 < self.old.segment_size }
         ensures { (result, books_of self.new) ≡ popped_from offset (queue_of (segment_of (books_of self.old) offset) (books_of self.old).pages) (books_of self.old) }
     {
         match first_queued(&self.pages, self.segment_id(offset)) {

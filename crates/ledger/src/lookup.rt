@@ -2,8 +2,10 @@
 ghost use Rattle.std.specs.Prelude.{◌≡◌, ◌/◌, ◌<◌, ◌≤◌, length, MatchOption};
 ghost use Rattle.rules.specs.Books.{state_of, segment_of, unused};
 ghost use Rattle.ledger.specs.Ledgers.{books_of};
+ghost use Rattle.ledger.specs.Settling.{lowest_fault};
 
 use crate::ledger::Ledger;
+use host::HostFault;
 use segment::{LogOffset, SegmentId, State};
 
 impl Ledger {
@@ -13,6 +15,18 @@ impl Ledger {
         ensures { result ≡ segment_of (books_of self.now) offset }
     {
         offset / self.segment_size
+    }
+
+    // The lowest cut that the host refused.
+    pub fn lowest_fault(&self) -> Option<HostFault>
+        ensures { result ≡ lowest_fault (books_of self.now).faults }
+    {
+        let row = self.faults.first()?;
+        Some(HostFault::Cut {
+            offset: row.offset,
+            code: row.code,
+            layer: row.layer,
+        })
     }
 
     // The state of segment n, if it is reached.

@@ -1,5 +1,5 @@
 -- An accepted link has room.
-use Rattle.std.proofs.Common.{◌≡◌, ◌/◌, ◌<◌, ◌≤◌, true, length, vec_items, sym, ap, ◌∙◌, subst, arith}
+use Rattle.std.proofs.Common.{◌≡◌, ◌/◌, ◌<◌, ◌≤◌, true, length, vec_items, sym, ap, ◌∙◌, subst}
 use Rattle.segment.specs.Bounds.{bounded}
 use Rattle.rules.specs.Books.{Books, state_of}
 use Rattle.rules.specs.Links.{linked_at, linked_state}
