@@ -25,8 +25,7 @@ impl<H: Host> World<H> {
 
     // All that segment n holds back is freed.
     pub(crate) fn release_all(&mut self, n: SegmentId)
-        requires small { n < 256 }
-        requires kept { Shared (books_of self.old.ledger) }
+        requires { Shared (books_of self.old.ledger) }
         ensures { seen H.Host.model self.new ≡ release_all H.Host.respond (held_back_by n (books_of self.old.ledger).freeable) (seen H.Host.model self.old) }
     {
         while let Some(row) = first_held_back(&self.ledger, n) {

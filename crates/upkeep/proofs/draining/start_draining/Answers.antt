@@ -14,9 +14,6 @@ take_out-requires c = (inactive_placed c.args.n (books_of c.args.ledger.now) c.r
 pub write-requires : goal.write-requires
 write-requires c = still_reached (states_of c.args.ledger.now.segments) _ c.args.n _ c.take_out.ensures.states (inactive_placed c.args.n (books_of c.args.ledger.now) c.requires.kept c.requires.inactive).reached
 
-pub queue_all-requires : goal.queue_all-requires
-queue_all-requires c = (inactive_placed c.args.n (books_of c.args.ledger.now) c.requires.kept c.requires.inactive).small
-
 pub overflow_mul-n : goal.overflow_mul-n
 overflow_mul-n c = let f = (inactive_placed c.args.n (books_of c.args.ledger.now) c.requires.kept c.requires.inactive).fits in omega arith
 

@@ -14,7 +14,7 @@ use Rattle.upkeep.proofs.world.World.close.Goals as goal
 pub release_all-requires : goal.release_all-requires
 release_all-requires g c =
     let b : Books = books_of c.args.self.now.ledger in
-    record { small = (active_placed c.args.n c.requires.active.0 b c.requires.active.1 c.requires.kept).small; kept = subst Shared (sym c.drop_blobs.ensures) (share_steps.removes c.args.n b c.requires.kept) }
+    subst Shared (sym c.drop_blobs.ensures) (share_steps.removes c.args.n b c.requires.kept)
 
 pub close_at-requires : goal.close_at-requires
 close_at-requires g c =
@@ -22,7 +22,7 @@ close_at-requires g c =
     let m = g.H.Host.model c.args.self.now.host in
     let p = active_placed c.args.n c.requires.active.0 b c.requires.active.1 c.requires.kept in
     let e = c.release_all.ensures ∙ ap (λ d. release_all g.H.Host.respond (held_back_by c.args.n d.freeable) (world d m)) c.drop_blobs.ensures in
-    record { reached = subst (λ x. c.args.n < length x.books.segments) (sym e) (subst (λ l. c.args.n < length l) (sym (opened_segments g.H.Host.respond c.args.n b m)) p.reached); small = p.small }
+    subst (λ x. c.args.n < length x.books.segments) (sym e) (subst (λ l. c.args.n < length l) (sym (opened_segments g.H.Host.respond c.args.n b m)) p.reached)
 
 pub clean-requires : goal.clean-requires
 clean-requires g c =

@@ -9,4 +9,4 @@ pub put_free-requires : goal.put_free-requires
 put_free-requires g c =
     let b = books_of c.args.self.now.ledger in
     let p = placed c.args.n (put_free c.args.n b) c.requires.kept.1 c.requires.reached in
-    record { reached = p.reached; small = p.small; fits = p.fits; room = free_room c.args.n b c.requires.kept }
+    record { reached = p.reached; fits = p.fits; room = free_room c.args.n b c.requires.kept }

@@ -2,14 +2,10 @@
 use Rattle.std.proofs.Common.{◌<◌, length, sym, ap, ◌∙◌, subst}
 use Rattle.rules.specs.Stabilizing.{held_back_by, release_all}
 use Rattle.orders.specs.Share.{Shared}
-use Rattle.orders.proofs.Floors.{freeable_floored}
 use Rattle.ledger.specs.Ledgers.{books_of}
 use Rattle.upkeep.specs.Worlds.{seen}
 use Rattle.upkeep.proofs.Releases.{first_has, release_keeps, release_step, release_fewer, release_end}
 use Rattle.upkeep.proofs.world.World.release_all.Goals as goal
-
-pub first_held_back-requires : goal.first_held_back-requires
-first_held_back-requires g c = record { small = c.requires.small; floor = freeable_floored (books_of c.loop-row.self.ledger) c.loop-row.invariant.0.whole.counting.within.1 }
 
 pub release-requires : goal.release-requires
 release-requires g c = record { there = first_has c.args.n (books_of c.loop-row.self.ledger).freeable c.in-Some.row (sym c.first_held_back.ensures ∙ c.in-Some.is); kept = c.loop-row.invariant.0 }
