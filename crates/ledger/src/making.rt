@@ -28,3 +28,18 @@ impl Ledger {
         })
     }
 }
+
+#[cfg(test)]
+mod tests {
+    use super::*;
+    use std::test::Fail;
+
+    #[test]
+    fn a_ledger_is_made_with_all_its_room(rt: HostRuntime) -> Result<(), Fail> {
+        let ledger = Ledger::new(rt.alloc())?;
+        assert_eq!(rt; ledger.segments.len(), 0);
+        assert_eq!(rt; ledger.pages.len(), 0);
+        assert_eq!(rt; ledger.max_stabilized_lsn, -1);
+        Ok(())
+    }
+}

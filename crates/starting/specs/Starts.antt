@@ -1,20 +1,12 @@
 -- What a start leaves: the books where it is accepted, and none where it is refused.
 use Rattle.std.specs.Prelude.{◌≡◌, ℕ, List, [], ◌∷◌, Some, None, Ok, Err, Option, Result}
-use Rattle.host.specs.declared.request.HostFault.{HostFault}
-use Rattle.segment.specs.declared.rows.FaultRow.{FaultRow}
 use Rattle.rules.specs.declared.refusal.Refusal.{Refusal}
 use Rattle.rules.specs.Books.{Books}
-use Rattle.rules.specs.HandingOut.{cut_fault}
 use Rattle.rules.specs.Starting.{Plan, plan_refusal, recovered}
 
 -- the books that a start recovers, before any segment is freed
 abbrev pub Recovered : Books → Type 0
 Recovered b = (s : Plan) × (slot : ℕ) × (extent : ℕ) × (plan_refusal s slot extent ≡ None) × (recovered s extent ≡ Ok b)
-
--- of the remembered faults, the lowest
-abbrev pub lowest_fault : List FaultRow → Option HostFault
-lowest_fault [] = None
-lowest_fault (row ∷ rows) = Some (cut_fault row)
 
 -- a refused start keeps no books
 abbrev pub books_kept : Result (Unit {0}) Refusal → Books → Option Books

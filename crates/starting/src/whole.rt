@@ -5,7 +5,7 @@ ghost use Rattle.orders.specs.Share.{Shared};
 ghost use Rattle.ledger.specs.Ledgers.{books_of};
 ghost use Rattle.recovery.specs.Plans.{plan_of};
 ghost use Rattle.upkeep.specs.Worlds.{seen};
-ghost use Rattle.starting.specs.Starts.{Recovered, lowest_fault, ended};
+ghost use Rattle.starting.specs.Starts.{Recovered, ended};
 
 use crate::freeing::free_all;
 use host::{Host, HostFault};
@@ -15,27 +15,13 @@ use rules::Refusal;
 use segment::Snapshot;
 use upkeep::World;
 
-// The lowest cut that the host refused.
-fn lowest_fault(ledger: &Ledger) -> Option<HostFault>
-    ensures { result ≡ lowest_fault (books_of ledger.now).faults }
-{
-    let row = ledger.faults.first()?;
-    Some(HostFault::Cut {
-        offset: row.offset,
-        code: row.code,
-        layer: row.layer,
-    })
-}
-
 // The Free segments of recovered books are freed; a refused fill or cut ends the start.
 fn finish<H: Host>(world: &mut World<H>) -> Result<(), Refusal>
     requires { Recovered (books_of world.old.ledger) }
     ensures { ended result (books_of world.new.ledger) (H.Host.model world.new.host) ≡ started_by H.Host.respond (free_all H.Host.respond 0 (books_of world.old.ledger).segments (seen H.Host.model world.old)) }
 {
-    if let Err(fault) = free_all(world) {
-        return Err(Refusal::Host(fault));
-    }
-    match lowest_fault(&world.ledger) {
+    free_all(world)?;
+    match world.ledger.lowest_fault() {
         Some(fault) => Err(Refusal::Host(fault)),
         None => Ok(()),
     }
