@@ -6,7 +6,7 @@ ghost use Rattle.rules.specs.Links.{out_of_range};
 use ledger::out_of_range;
 use segment::{CacheInfo, Lsn};
 
-// Whether the LSN of an entry is out of range.
+// Whether the LSN of any entry is out of range.
 fn some_outside(infos: &[CacheInfo]) -> bool
     ensures { result ≡ not (every (λ info. not (out_of_range info.lsn)) infos.now) }
 {

@@ -22,7 +22,7 @@ use segment::{CacheInfo, Lsn, PageId, base};
 
 pub const MAX_OLDS: usize = 256;
 
-// Whether an entry is too large.
+// Whether any entry is too large.
 fn some_too_large(infos: &[CacheInfo]) -> bool
     ensures { result ≡ not (every (λ info. not (too_large info.log_size)) infos.now) }
 {

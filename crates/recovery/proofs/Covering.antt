@@ -1,7 +1,6 @@
 -- Entries that cover the rows in turn never lead past them.
-use Rattle.std.proofs.Common.{◌≡◌, ℕ, zero, suc, ◌+◌, ◌<◌, ◌≤◌, Bool, true, false, ◌&&◌, eqb, List, [], ◌∷◌, length, get_or, take, drop, Some, None, Option, is_some, sym, ap, ◌∙◌, arith}
-use Rattle.std.proofs.lemmas.List.{at_drop_more, at_drop_all}
-use Rattle.std.proofs.lemmas.Bool.{and_parts, and_left, and_right, eqb-true, eq-eqb, ne_eqb, lt-ltb, le-leb}
+use Rattle.std.proofs.Common.{◌≡◌, ℕ, zero, suc, ◌+◌, ◌<◌, ◌≤◌, Bool, true, false, eqb, List, [], ◌∷◌, length, get_or, take, drop, Some, None, Option, is_some, ◌∙◌, arith}
+use Rattle.std.proofs.lemmas.Bool.{and_parts, and_right, eqb-true, ne_eqb, lt-ltb, le-leb}
 use Rattle.segment.specs.Pages.{no_entry, page_rows, page_state}
 use Rattle.segment.specs.declared.snapshot.PageEntry.{PageEntry}
 use Rattle.segment.specs.declared.snapshot.SnapshotRow.{SnapshotRow}
@@ -25,29 +24,6 @@ covered at (entry ∷ entries) rows zero d h l =
     let k = covers_low (at + entry.count) entries rows hs.1 in
     omega arith
 covered at (entry ∷ entries) rows (suc i) d h l = covered (at + entry.count) entries rows i d (and_parts (eqb entry.first at) _ h).1 (omega arith)
-
--- ---- a walk along the entries
-module _ (entries : List PageEntry) (rows i : ℕ) (entry : PageEntry) where
-  pub covers_more : (at end : ℕ) → covers at (drop i entries) rows ≡ covers 0 entries rows → i < length entries → (get_or entries i entry).first ≡ at → end ≡ at + (get_or entries i entry).count → covers end (drop (i + 1) entries) rows ≡ covers 0 entries rows
-  covers_more at end inv l e f =
-      let step = at_drop_more (λ es. covers at es rows) entries i entry l in
-      let same : (eqb (get_or entries i entry).first at && covers (at + (get_or entries i entry).count) (drop (i + 1) entries) rows) ≡ covers (at + (get_or entries i entry).count) (drop (i + 1) entries) rows = rw (eq-eqb _ _ e) in
-      ap (λ at. covers at (drop (i + 1) entries) rows) f ∙ (sym (step ∙ same) ∙ inv)
-
-  -- an entry that begins elsewhere
-  pub covers_other : (at : ℕ) → covers at (drop i entries) rows ≡ covers 0 entries rows → i < length entries → ((get_or entries i entry).first ≡ at → ⊥) → false ≡ covers 0 entries rows
-  covers_other at inv l e =
-      let step = at_drop_more (λ es. covers at es rows) entries i entry l in
-      sym (step ∙ and_left _ (covers (at + (get_or entries i entry).count) (drop (i + 1) entries) rows) (ne_eqb _ _ e)) ∙ inv
-
-  -- an entry that ends past all rows
-  pub covers_over : (at : ℕ) → covers at (drop i entries) rows ≡ covers 0 entries rows → i < length entries → rows < at + (get_or entries i entry).count → false ≡ covers 0 entries rows
-  covers_over at inv l e =
-      let step = at_drop_more (λ es. covers at es rows) entries i entry l in
-      sym (step ∙ and_right (eqb (get_or entries i entry).first at) (covers (at + (get_or entries i entry).count) (drop (i + 1) entries) rows) (covers_past (at + (get_or entries i entry).count) (drop (i + 1) entries) rows e)) ∙ inv
-
-pub covers_end : (entries : List PageEntry) (rows i at : ℕ) → covers at (drop i entries) rows ≡ covers 0 entries rows → length entries ≤ i → eqb at rows ≡ covers 0 entries rows
-covers_end entries rows i at inv l = sym (at_drop_all (λ es. covers at es rows) entries i l) ∙ inv
 
 -- the rows of a page are there
 pub part_there : (directory : List PageEntry) (rows : List SnapshotRow) (page : ℕ) → covers 0 directory (length rows) ≡ true → page < length directory → page_rows directory rows page ≡ Some (take (get_or directory page no_entry).count (drop (get_or directory page no_entry).first rows))

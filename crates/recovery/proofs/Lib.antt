@@ -4,3 +4,4 @@ pub mod RowSteps
 pub mod RowWalks
 pub mod OrderWalks
 pub mod PlanParts
+pub mod Folding

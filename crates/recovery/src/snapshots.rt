@@ -26,17 +26,14 @@ pub fn lsns_out_of_range(stable: Option<Lsn>, rows: &[SnapshotRow]) -> bool
 pub fn covers(directory: &[PageEntry], rows: usize) -> bool
     ensures { result ≡ covers 0 directory.now rows }
 {
-    let mut at: u64 = 0;
-    for entry in directory {
-        if entry.first != at {
-            return false;
+    let end = directory.iter().try_fold(0, |at: u64, entry| {
+        if entry.first == at {
+            at.checked_add(entry.count)
+        } else {
+            None
         }
-        let Some(end) = at.checked_add(entry.count) else {
-            return false;
-        };
-        at = end;
-    }
-    at == rows as u64
+    });
+    end == Some(rows as u64)
 }
 
 // Whether the rows of a page, which the directory leads to, form one.
