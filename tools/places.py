@@ -48,14 +48,14 @@ def functions():
                 i += 1
                 continue
             indent, name, head, body, clauses, j = start[1], start[2], [], [], [], i
-            while j < len(lines) and lines[j] != indent + "{" and not lines[j].endswith((" {", ";")) or (
+            while j < len(lines) and lines[j] not in (indent + "{", indent + "{}") and not lines[j].endswith((" {", ";")) or (
                 j < len(lines) and re.match(r"\s*(requires|ensures)", lines[j]) and not lines[j].endswith(";")
             ):
                 (clauses if re.match(r"\s*(requires|ensures)", lines[j]) else head).append(lines[j])
                 j += 1
-            if j < len(lines) and lines[j] != indent + "{":
+            if j < len(lines) and lines[j] not in (indent + "{", indent + "{}"):
                 (clauses if re.match(r"\s*(requires|ensures)", lines[j]) else head).append(lines[j])
-            while j < len(lines) and lines[j] != indent + "}" and not lines[j].endswith(";" if not body else "\0"):
+            while j < len(lines) and lines[j] not in (indent + "}", indent + "{}") and not lines[j].endswith(";" if not body else "\0"):
                 j += 1
                 if j < len(lines):
                     body.append(lines[j])

@@ -5,7 +5,7 @@ ghost use Rattle.ledger.specs.Ledgers.{books_of};
 ghost use Rattle.accountant.specs.Kept.{books_if};
 
 use closing::Ripe;
-use entries::{SpareBlobs, Sums};
+use entries::Scratch;
 use upkeep::World;
 
 /// Decides which segment of the log is written next, which pages have to be rewritten, when the end of the file is cut off and
@@ -15,9 +15,8 @@ pub struct SegmentAccountant<H> {
     pub(crate) world: World<H>,
     // Whether a start was accepted.
     pub(crate) started: bool,
-    // Where a replacement's old sizes are summed, its blob rows are put together, and a stabilize gathers what it deactivates.
-    pub(crate) sums: Sums,
-    pub(crate) spare: SpareBlobs,
+    // Where a replacement is worked out, and where a stabilize gathers what it deactivates.
+    pub(crate) scratch: Scratch,
     pub(crate) ripe: Ripe,
     // What the books keep, once there are any.
     ghost kept: { ∥ IfAny Shared (books_if started (books_of world.ledger)) ∥₁ },

@@ -6,7 +6,7 @@ ghost use Rattle.recovery.specs.Plans.{plan_of};
 ghost use Rattle.accountant.specs.Accounts.{books_in, host_in};
 
 use crate::accountant::SegmentAccountant;
-use entries::out_of_range;
+use entries::{Replacement, out_of_range};
 use host::Host;
 use replacing::{link, replace};
 use rules::Refusal;
@@ -76,15 +76,13 @@ impl<H: Host> SegmentAccountant<H> {
         if !self.started {
             return Err(Refusal::OutOfTurn);
         }
-        replace(
-            &mut self.world,
-            &mut self.sums,
-            &mut self.spare,
+        let replacement = Replacement {
             page,
             lsn,
-            old,
+            olds: old,
             new,
-        )
+        };
+        replace(&mut self.world, &mut self.scratch, &replacement)
     }
 
     pub(crate) fn do_start(

@@ -2,19 +2,21 @@
 #![tactic(auto)]
 
 mod links;
-mod lsns;
 mod olds;
 mod recording;
+mod replacement;
 mod replaces;
+mod scratch;
 mod spare;
 mod sums;
 mod taking;
 
 pub use ledger::out_of_range;
 pub use links::check_link;
-pub use lsns::lsns_outside;
 pub use recording::{link, record_replacement};
+pub use replacement::Replacement;
 pub use replaces::check_replace;
+pub use scratch::Scratch;
 pub use spare::SpareBlobs;
 pub use sums::{SumRow, Sums};
 pub use taking::take_at;

@@ -14,11 +14,13 @@ ghost use Rattle.entries.specs.Sums.{pairs};
 
 use crate::links::{MAX_SIZE, check_link};
 use crate::olds::check_olds;
+use crate::replacement::Replacement;
+use crate::scratch::Scratch;
 use crate::spare::SpareBlobs;
 use crate::sums::Sums;
 use ledger::Ledger;
 use rules::Refusal;
-use segment::{CacheInfo, Lsn, PageId, base};
+use segment::{CacheInfo, base};
 
 pub const MAX_OLDS: usize = 256;
 
@@ -30,81 +32,65 @@ fn some_too_large(infos: &[CacheInfo]) -> bool
 }
 
 // Why the call itself is refused: its two LSNs differ, or its old entries are too many or too large.
-fn check_call(lsn: Lsn, olds: &[CacheInfo], new: &CacheInfo) -> Result<(), Refusal>
-    ensures { result ≡ verdict (first_refusal ((not (same_z lsn new.now.lsn), no.LsnsDiffer) ∷ (nat_lt 256 (length olds.now), no.TooManyOld) ∷ (not (every (λ old. not (too_large old.log_size)) olds.now), no.TooLarge) ∷ [])) }
+fn check_call(r: &Replacement<'_>) -> Result<(), Refusal>
+    ensures { result ≡ verdict (first_refusal ((not (same_z r.now.lsn r.now.new.now.lsn), no.LsnsDiffer) ∷ (nat_lt 256 (length r.now.olds.now), no.TooManyOld) ∷ (not (every (λ old. not (too_large old.log_size)) r.now.olds.now), no.TooLarge) ∷ [])) }
 {
-    if lsn != new.lsn {
+    if r.lsn != r.new.lsn {
         return Err(Refusal::LsnsDiffer);
     }
-    if olds.len() > MAX_OLDS {
+    if r.olds.len() > MAX_OLDS {
         return Err(Refusal::TooManyOld);
     }
-    if some_too_large(olds) {
+    if some_too_large(r.olds) {
         return Err(Refusal::TooLarge);
     }
     Ok(())
 }
 
 // Sums up the old sizes, and says why the page may not be replaced in the old segments.
-fn check_sums(
-    ledger: &Ledger,
-    sums: &mut Sums,
-    page: PageId,
-    lsn: Lsn,
-    olds: &[CacheInfo],
-    new: &CacheInfo,
-) -> Result<(), Refusal>
+fn check_sums(ledger: &Ledger, sums: &mut Sums, r: &Replacement<'_>) -> Result<(), Refusal>
     requires size { 0 < ledger.now.segment_size }
-    requires range { out_of_range lsn ≡ false }
-    requires few { length olds.now ≤ 256 }
-    requires small { every (λ old. not (too_large old.log_size)) olds.now ≡ true }
-    requires accepted { link_refusal (books_of ledger.now) page new.now ≡ None }
-    ensures answer { result ≡ verdict (olds_refusal (link_of page new.now (books_of ledger.now)) page (base_of ledger.now.segment_size lsn) (sums_of (books_of ledger.now) olds.now)) }
-    ensures summed { pairs (held sums.new.rows) ≡ sums_of (books_of ledger.now) olds.now }
+    requires range { out_of_range r.now.lsn ≡ false }
+    requires few { length r.now.olds.now ≤ 256 }
+    requires small { every (λ old. not (too_large old.log_size)) r.now.olds.now ≡ true }
+    requires accepted { link_refusal (books_of ledger.now) r.now.page r.now.new.now ≡ None }
+    ensures answer { result ≡ verdict (olds_refusal (link_of r.now.page r.now.new.now (books_of ledger.now)) r.now.page (base_of ledger.now.segment_size r.now.lsn) (sums_of (books_of ledger.now) r.now.olds.now)) }
+    ensures summed { pairs (held sums.new.rows) ≡ sums_of (books_of ledger.now) r.now.olds.now }
 {
-    sums.sum_up(ledger, olds);
-    let base = base(lsn, ledger.segment_size);
-    check_olds(ledger, page, base, sums.rows.rows(), new)
+    sums.sum_up(ledger, r.olds);
+    let base = base(r.lsn, ledger.segment_size);
+    check_olds(ledger, r.page, base, sums.rows.rows(), r.new)
 }
 
 // Fills the spare blob rows, and says whether they would be too many.
-fn check_blobs(
-    ledger: &Ledger,
-    spare: &mut SpareBlobs,
-    olds: &[CacheInfo],
-    new: &CacheInfo,
-) -> Result<(), Refusal>
+fn check_blobs(ledger: &Ledger, spare: &mut SpareBlobs, r: &Replacement<'_>) -> Result<(), Refusal>
     requires size { 0 < ledger.now.segment_size }
-    requires few { length olds.now ≤ 256 }
+    requires few { length r.now.olds.now ≤ 256 }
     requires room { length (held ledger.now.blobs) ≤ 256 }
-    ensures answer { result ≡ verdict (first_refusal ((blob_rows_full (books_of ledger.now) (info_segment (books_of ledger.now) new.now) (blob_of new.now.pointer) olds.now, no.BlobRowsFull) ∷ [])) }
-    ensures given { held spare.new.rows ≡ given_up (info_segment (books_of ledger.now) new.now) (blob_of new.now.pointer) olds.now (held ledger.now.blobs) }
+    ensures answer { result ≡ verdict (first_refusal ((blob_rows_full (books_of ledger.now) (info_segment (books_of ledger.now) r.now.new.now) (blob_of r.now.new.now.pointer) r.now.olds.now, no.BlobRowsFull) ∷ [])) }
+    ensures given { held spare.new.rows ≡ given_up (info_segment (books_of ledger.now) r.now.new.now) (blob_of r.now.new.now.pointer) r.now.olds.now (held ledger.now.blobs) }
 {
-    let n = ledger.segment_id(new.pointer.lid());
-    spare.fill(&ledger.blobs, n, new.pointer.blob(), olds);
+    let n = ledger.segment_id(r.new.pointer.lid());
+    spare.fill(&ledger.blobs, n, r.new.pointer.blob(), r.olds);
     spare.check()
 }
 
 // Why the page's old entries may not be replaced by the new one. Where they may, the sums and the spare rows are ready.
 pub fn check_replace(
     ledger: &Ledger,
-    sums: &mut Sums,
-    spare: &mut SpareBlobs,
-    page: PageId,
-    lsn: Lsn,
-    olds: &[CacheInfo],
-    new: &CacheInfo,
+    scratch: &mut Scratch,
+    r: &Replacement<'_>,
 ) -> Result<(), Refusal>
     requires size { 0 < ledger.now.segment_size }
-    requires range { out_of_range lsn ≡ false }
-    requires new_range { out_of_range new.now.lsn ≡ false }
+    requires range { out_of_range r.now.lsn ≡ false }
+    requires new_range { out_of_range r.now.new.now.lsn ≡ false }
     requires room { length (held ledger.now.blobs) ≤ 256 }
-    ensures answer { result ≡ verdict (replace_refusal (books_of ledger.now) page lsn olds.now new.now) }
-    ensures summed { OnOk result (pairs (held sums.new.rows) ≡ sums_of (books_of ledger.now) olds.now) }
-    ensures given { OnOk result (held spare.new.rows ≡ given_up (info_segment (books_of ledger.now) new.now) (blob_of new.now.pointer) olds.now (held ledger.now.blobs)) }
+    ensures answer { result ≡ verdict (replace_refusal (books_of ledger.now) r.now.page r.now.lsn r.now.olds.now r.now.new.now) }
+    ensures summed { OnOk result (pairs (held scratch.new.sums.rows) ≡ sums_of (books_of ledger.now) r.now.olds.now) }
+    ensures given { OnOk result (held scratch.new.spare.rows ≡ given_up (info_segment (books_of ledger.now) r.now.new.now) (blob_of r.now.new.now.pointer) r.now.olds.now (held ledger.now.blobs)) }
 {
-    check_call(lsn, olds, new)?;
-    check_link(ledger, page, new)?;
-    check_sums(ledger, sums, page, lsn, olds, new)?;
-    check_blobs(ledger, spare, olds, new)
+    check_call(r)?;
+    check_link(ledger, r.page, r.new)?;
+    check_sums(ledger, &mut scratch.sums, r)?;
+    check_blobs(ledger, &mut scratch.spare, r)
 }

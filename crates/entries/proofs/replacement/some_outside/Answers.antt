@@ -5,7 +5,7 @@ use Rattle.std.proofs.lemmas.Iterator.Search.{any_from_yields_List}
 use Rattle.segment.proofs.Walks.{any_is_not_every}
 use Rattle.segment.specs.declared.cache_info.CacheInfo.{CacheInfo}
 use Rattle.rules.specs.Links.{out_of_range}
-use Rattle.entries.proofs.lsns.some_outside.Goals as goal
+use Rattle.entries.proofs.replacement.some_outside.Goals as goal
 
 pub returns : goal.returns
 returns c =
