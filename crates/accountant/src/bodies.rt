@@ -8,6 +8,7 @@ ghost use Rattle.accountant.specs.Accounts.{books_in, host_in};
 use crate::accountant::SegmentAccountant;
 use entries::{Replacement, out_of_range};
 use host::Host;
+use recovery::Plan;
 use replacing::{link, replace};
 use rules::Refusal;
 use segment::{CacheInfo, LogOffset, Lsn, PageId, Snapshot};
@@ -91,12 +92,17 @@ impl<H: Host> SegmentAccountant<H> {
         header_len: u64,
         snapshot: Snapshot<'_>,
     ) -> Result<(), Refusal>
-        ensures { (result, books_in self.new, H.Host.model (host_in self.new)) ≡ call.start H.Host.respond H.Host.slot H.Host.extent (plan_of segment_size header_len snapshot.entry) (books_in self.old) (H.Host.model (host_in self.old)) }
+        ensures { (result, books_in self.new, H.Host.model (host_in self.new)) ≡ call.start H.Host.respond H.Host.slot H.Host.extent (plan_of (record { segment_size = segment_size; header_len = header_len; snapshot = snapshot.entry })) (books_in self.old) (H.Host.model (host_in self.old)) }
     {
         if self.started {
             return Err(Refusal::OutOfTurn);
         }
-        start(&mut self.world, segment_size, header_len, snapshot)?;
+        let plan = Plan {
+            segment_size,
+            header_len,
+            snapshot,
+        };
+        start(&mut self.world, &plan)?;
         self.started = true;
         Ok(())
     }

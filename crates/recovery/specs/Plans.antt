@@ -1,20 +1,20 @@
 -- What start is handed, as the plan that the rules speak of.
 use Rattle.std.specs.Prelude.{ℕ, ◌/◌, ◌<◌, Bool, not, List, [], take, drop, Some, None, Ok, Err, Option, Result}
 use Rattle.segment.specs.declared.snapshot.PageEntry.{PageEntry}
-use Rattle.segment.specs.declared.snapshot.Snapshot.{Snapshot}
 use Rattle.segment.specs.declared.snapshot.SnapshotRow.{SnapshotRow}
 use Rattle.rules.specs.declared.refusal.Refusal.{Refusal}
 use Rattle.rules.specs.Links.{out_of_range}
 use Rattle.rules.specs.Starting.{Plan}
+use Rattle.recovery.specs.declared.plan.Plan.{Plan as Handed}
 
-abbrev pub plan_of : ℕ → ℕ → Snapshot → Plan
-plan_of size header snapshot = record {
-  size = size;
-  header = header;
-  stable = snapshot.stable_lsn;
-  active = snapshot.active_segment;
-  directory = snapshot.directory.now;
-  rows = snapshot.rows.now;
+abbrev pub plan_of : Handed → Plan
+plan_of h = record {
+  size = h.segment_size;
+  header = h.header_len;
+  stable = h.snapshot.stable_lsn;
+  active = h.snapshot.active_segment;
+  directory = h.snapshot.directory.now;
+  rows = h.snapshot.rows.now;
 }
 
 -- the part of a plan that segments are counted from

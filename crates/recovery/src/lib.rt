@@ -11,5 +11,5 @@ mod recovering;
 mod snapshots;
 mod whole;
 
-pub use plan::check_plan;
+pub use plan::{Plan, check_plan};
 pub use whole::{recover, recover_with};

@@ -8,6 +8,14 @@ use crate::snapshots::{covers, forms_pages, lsns_out_of_range};
 use rules::Refusal;
 use segment::Snapshot;
 
+// What a start is handed.
+#[derive(Clone, Copy)]
+pub struct Plan<'a> {
+    pub segment_size: u64,
+    pub header_len: u64,
+    pub snapshot: Snapshot<'a>,
+}
+
 // Whether the lengths are in range, and the host was made for this segment size.
 fn is_setup(segment_size: u64, header_len: u64, slot: u64) -> bool
     ensures { result ≡ (is_segment_size segment_size && (is_header header_len && nat_eq slot segment_size)) }
@@ -16,15 +24,14 @@ fn is_setup(segment_size: u64, header_len: u64, slot: u64) -> bool
 }
 
 // Checks a start over a host with this segment size and file length. Answers how many segments it has.
-pub fn check_plan(
-    segment_size: u64,
-    header_len: u64,
-    snapshot: &Snapshot,
-    slot: u64,
-    extent: u64,
-) -> Result<u64, Refusal>
-    ensures { result ≡ planned (plan_refusal (plan_of segment_size header_len snapshot.now) slot extent) (segment_count (plan_of segment_size header_len snapshot.now) extent) }
+pub fn check_plan(plan: &Plan<'_>, slot: u64, extent: u64) -> Result<u64, Refusal>
+    ensures { result ≡ planned (plan_refusal (plan_of plan.now) slot extent) (segment_count (plan_of plan.now) extent) }
 {
+    let Plan {
+        segment_size,
+        header_len,
+        snapshot,
+    } = *plan;
     if lsns_out_of_range(snapshot.stable_lsn, snapshot.rows) {
         return Err(Refusal::LsnRange);
     }

@@ -11,9 +11,10 @@ ghost use Rattle.recovery.specs.Recoverable.{Recoverable};
 
 use crate::opening::open_for;
 use crate::placing::{check_placed, row_size};
+use crate::plan::Plan;
 use ledger::Ledger;
 use rules::Refusal;
-use segment::{PageEntry, PageId, SnapshotRow, page_rows};
+use segment::{PageId, SnapshotRow, page_rows};
 
 // A row of the page is recovered: its segment becomes Active unless it is, and the row is linked there.
 pub fn recover_row(
@@ -56,41 +57,30 @@ fn recover_rows(
 }
 
 // The rows of one page, which the directory leads to, are recovered.
-fn recover_page(
-    ledger: &mut Ledger,
-    header_len: u64,
-    directory: &[PageEntry],
-    rows: &[SnapshotRow],
-    page: usize,
-) -> Result<(), Refusal>
+fn recover_page(ledger: &mut Ledger, plan: &Plan<'_>, page: usize) -> Result<(), Refusal>
     requires kept { Recoverable (books_of ledger.old) }
-    requires lsns { every in_range rows.now ≡ true }
-    requires covered { covers 0 directory.now (length rows.now) ≡ true }
-    requires listed { page < length directory.now }
-    ensures books { outcome result (books_of ledger.new) ≡ recover_rows header_len page (rows_at (slice_index_or directory.now page no_entry) rows.now) (books_of ledger.old) }
+    requires lsns { every in_range plan.now.snapshot.rows.now ≡ true }
+    requires covered { covers 0 plan.now.snapshot.directory.now (length plan.now.snapshot.rows.now) ≡ true }
+    requires listed { page < length plan.now.snapshot.directory.now }
+    ensures books { outcome result (books_of ledger.new) ≡ recover_rows plan.now.header_len page (rows_at (slice_index_or plan.now.snapshot.directory.now page no_entry) plan.now.snapshot.rows.now) (books_of ledger.old) }
     ensures kept { OnOk result (Recoverable (books_of ledger.new)) }
 {
-    match page_rows(directory, rows, page) {
-        Some(part) => recover_rows(ledger, header_len, page as PageId, part),
+    match page_rows(plan.snapshot.directory, plan.snapshot.rows, page) {
+        Some(part) => recover_rows(ledger, plan.header_len, page as PageId, part),
         None => Ok(()),
     }
 }
 
 // All pages are recovered in turn.
-pub fn recover_pages(
-    ledger: &mut Ledger,
-    header_len: u64,
-    directory: &[PageEntry],
-    rows: &[SnapshotRow],
-) -> Result<(), Refusal>
+pub fn recover_pages(ledger: &mut Ledger, plan: &Plan<'_>) -> Result<(), Refusal>
     requires kept { Recoverable (books_of ledger.old) }
-    requires lsns { every in_range rows.now ≡ true }
-    requires covered { covers 0 directory.now (length rows.now) ≡ true }
-    ensures books { outcome result (books_of ledger.new) ≡ recover_pages header_len 0 directory.now rows.now (books_of ledger.old) }
+    requires lsns { every in_range plan.now.snapshot.rows.now ≡ true }
+    requires covered { covers 0 plan.now.snapshot.directory.now (length plan.now.snapshot.rows.now) ≡ true }
+    ensures books { outcome result (books_of ledger.new) ≡ recover_pages plan.now.header_len 0 plan.now.snapshot.directory.now plan.now.snapshot.rows.now (books_of ledger.old) }
     ensures kept { OnOk result (Recoverable (books_of ledger.new)) }
 {
-    for page in 0..directory.len() {
-        recover_page(ledger, header_len, directory, rows, page)?;
+    for page in 0..plan.snapshot.directory.len() {
+        recover_page(ledger, plan, page)?;
     }
     Ok(())
 }

@@ -10,7 +10,7 @@ ghost use Rattle.recovery.specs.Plans.{plan_of, sized, Reaches};
 use crate::blanks::blank;
 use crate::opening::open_active;
 use crate::ordering::order_all;
-use crate::plan::check_plan;
+use crate::plan::{Plan, check_plan};
 use crate::recovering::recover_pages;
 use ledger::Ledger;
 use rules::Refusal;
@@ -35,38 +35,24 @@ fn begin(
 }
 
 // A start that the checks let pass, with so many segments: rows in turn, then the ordering.
-pub fn recover_with(
-    ledger: &mut Ledger,
-    segment_size: u64,
-    header_len: u64,
-    snapshot: &Snapshot,
-    count: u64,
-) -> Result<(), Refusal>
-    requires { Accepted (plan_of segment_size header_len snapshot.now) count }
-    ensures { outcome result (books_of ledger.new) ≡ recovered_with (plan_of segment_size header_len snapshot.now) count }
+pub fn recover_with(ledger: &mut Ledger, plan: &Plan<'_>, count: u64) -> Result<(), Refusal>
+    requires { Accepted (plan_of plan.now) count }
+    ensures { outcome result (books_of ledger.new) ≡ recovered_with (plan_of plan.now) count }
 {
-    begin(
-        ledger,
-        segment_size,
-        snapshot.active_segment,
-        snapshot.stable_lsn,
-        count,
-    );
-    recover_pages(ledger, header_len, snapshot.directory, snapshot.rows)?;
+    let Snapshot {
+        active_segment,
+        stable_lsn,
+        ..
+    } = plan.snapshot;
+    begin(ledger, plan.segment_size, active_segment, stable_lsn, count);
+    recover_pages(ledger, plan)?;
     order_all(ledger)
 }
 
 // A start over a host with this segment size and file length, up to the freeing of its segments.
-pub fn recover(
-    ledger: &mut Ledger,
-    segment_size: u64,
-    header_len: u64,
-    snapshot: &Snapshot,
-    slot: u64,
-    extent: u64,
-) -> Result<(), Refusal>
-    ensures { outcome result (books_of ledger.new) ≡ recovered_if (plan_refusal (plan_of segment_size header_len snapshot.now) slot extent) (plan_of segment_size header_len snapshot.now) extent }
+pub fn recover(ledger: &mut Ledger, plan: &Plan<'_>, slot: u64, extent: u64) -> Result<(), Refusal>
+    ensures { outcome result (books_of ledger.new) ≡ recovered_if (plan_refusal (plan_of plan.now) slot extent) (plan_of plan.now) extent }
 {
-    let count = check_plan(segment_size, header_len, snapshot, slot, extent)?;
-    recover_with(ledger, segment_size, header_len, snapshot, count)
+    let count = check_plan(plan, slot, extent)?;
+    recover_with(ledger, plan, count)
 }

@@ -10,9 +10,8 @@ ghost use Rattle.starting.specs.Starts.{Recovered, ended};
 use crate::freeing::free_all;
 use host::{Host, HostFault};
 use ledger::Ledger;
-use recovery::recover;
+use recovery::{Plan, recover};
 use rules::Refusal;
-use segment::Snapshot;
 use upkeep::World;
 
 // The Free segments of recovered books are freed; a refused fill or cut ends the start.
@@ -28,24 +27,12 @@ fn finish<H: Host>(world: &mut World<H>) -> Result<(), Refusal>
 }
 
 // A start over the host: answer, books and host after it are those of the rules, and the books keep what books keep.
-pub fn start<H: Host>(
-    world: &mut World<H>,
-    segment_size: u64,
-    header_len: u64,
-    snapshot: Snapshot<'_>,
-) -> Result<(), Refusal>
-    ensures started { ended result (books_of world.new.ledger) (H.Host.model world.new.host) ≡ started H.Host.respond (plan_of segment_size header_len snapshot.entry) (H.Host.slot (H.Host.model world.old.host)) (H.Host.extent (H.Host.model world.old.host)) (H.Host.model world.old.host) }
+pub fn start<H: Host>(world: &mut World<H>, plan: &Plan<'_>) -> Result<(), Refusal>
+    ensures started { ended result (books_of world.new.ledger) (H.Host.model world.new.host) ≡ started H.Host.respond (plan_of plan.now) (H.Host.slot (H.Host.model world.old.host)) (H.Host.extent (H.Host.model world.old.host)) (H.Host.model world.old.host) }
     ensures kept { OnOk result (Shared (books_of world.new.ledger)) }
 {
     let slot = world.host.segment_size();
     let extent = world.host.length();
-    recover(
-        &mut world.ledger,
-        segment_size,
-        header_len,
-        &snapshot,
-        slot,
-        extent,
-    )?;
+    recover(&mut world.ledger, plan, slot, extent)?;
     finish(world)
 }

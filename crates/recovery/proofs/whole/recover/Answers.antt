@@ -11,19 +11,19 @@ use Rattle.recovery.proofs.whole.recover.Goals as goal
 
 pub returns-in_err-count : goal.returns-in_err-count
 returns-in_err-count c =
-    let s = plan_of c.args.segment_size c.args.header_len c.args.snapshot.now in
+    let s = plan_of c.args.plan.now in
     let p = err_from_is_err_and c.from_residual.result c.from_residual.ensures.1 in
     let e = planned_err (plan_refusal s c.args.slot c.args.extent) (segment_count s c.args.extent) p.0 (ap Err p.2 ∙ c.in_err-count.ensures) in
     ap (λ r. outcome r (books_of c.args.ledger.now)) p.1 ∙ sym (ap (λ o. recovered_if o s c.args.extent) e)
 
 pub recover_with-requires : goal.recover_with-requires
 recover_with-requires c =
-    let s = plan_of c.args.segment_size c.args.header_len c.args.snapshot.now in
+    let s = plan_of c.args.plan.now in
     let e = planned_ok (plan_refusal s c.args.slot c.args.extent) (segment_count s c.args.extent) c.in_ok-count.count c.in_ok-count.ensures in
     (c.args.slot, c.args.extent, e.0, e.1)
 
 pub returns : goal.returns
 returns c =
-    let s = plan_of c.args.segment_size c.args.header_len c.args.snapshot.now in
+    let s = plan_of c.args.plan.now in
     let e = planned_ok (plan_refusal s c.args.slot c.args.extent) (segment_count s c.args.extent) c.in_ok-count.count c.in_ok-count.ensures in
     c.recover_with.ensures ∙ (ap (recovered_with s) e.1 ∙ sym (ap (λ o. recovered_if o s c.args.extent) e.0))

@@ -13,7 +13,7 @@ use Rattle.starting.proofs.whole.start.Goals as goal
 
 pub returns-in_err-recover : goal.returns-in_err-recover
 returns-in_err-recover g c =
-    let s = plan_of c.args.segment_size c.args.header_len c.args.snapshot in
+    let s = plan_of c.args.plan.now in
     let m = g.H.Host.model c.args.world.now.host in
     let slot = c.segment_size-slot.result in
     let extent = c.length-extent.result in
@@ -24,11 +24,11 @@ returns-in_err-recover g c =
     record { started = e; kept = start_kept g.H.Host.respond s (g.H.Host.slot m) (g.H.Host.extent m) m m c.from_residual.result b e }
 
 pub finish-requires : goal.finish-requires
-finish-requires g c = passed_recovered (plan_of c.args.segment_size c.args.header_len c.args.snapshot) c.segment_size-slot.result c.length-extent.result (books_of c.recover.new.ledger) c.in_ok-recover.ensures
+finish-requires g c = passed_recovered (plan_of c.args.plan.now) c.segment_size-slot.result c.length-extent.result (books_of c.recover.new.ledger) c.in_ok-recover.ensures
 
 pub returns : goal.returns
 returns g c =
-    let s = plan_of c.args.segment_size c.args.header_len c.args.snapshot in
+    let s = plan_of c.args.plan.now in
     let m = g.H.Host.model c.args.world.now.host in
     let k = g.H.Host.model c.finish.new.world.host in
     let slot = c.segment_size-slot.result in
