@@ -24,6 +24,7 @@ pub(crate) trait Number: FromStr<Err = ParseIntError> {
     ghost plus: { (bs : List ℕ) → slice_index bs 0 ≡ 43 → reads bs (Err NotANumber) };
 }
 
+// The number of a row's kind.
 impl Number for u8 {
     ghost reads = { UnsignedOf 8 };
 
@@ -38,6 +39,14 @@ impl Number for u64 {
     ghost plain = { λ bs r n p. unsigned_plain 64 bs r n p.0 };
 
     ghost plus = { unsigned_plus 64 };
+}
+
+impl Number for i64 {
+    ghost reads = { Signed };
+
+    ghost plain = { λ bs r n p. signed_plain bs r n p.0 };
+
+    ghost plus = { signed_plus };
 }
 
 pub(crate) fn read_number<N: Number>(field: &str) -> Result<N, Reason>
@@ -58,12 +67,4 @@ pub(crate) fn read_number_or_none<N: Number>(field: &str) -> Result<Option<N>, R
     } else {
         Ok(Some(read_number(field)?))
     }
-}
-
-impl Number for i64 {
-    ghost reads = { Signed };
-
-    ghost plain = { λ bs r n p. signed_plain bs r n p.0 };
-
-    ghost plus = { signed_plus };
 }

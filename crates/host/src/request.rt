@@ -19,6 +19,7 @@ pub enum Request {
     Remove(BlobPointer),
 }
 
+// An enum, and not a request beside a code and a layer: a rule of the project.
 /// A refusal whole: what was asked, with its place, the code, and how many layers stand above the one that refused.
 #[derive(Clone, Copy, PartialEq, Eq, Debug)]
 pub enum HostFault {
