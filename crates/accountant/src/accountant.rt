@@ -13,7 +13,7 @@ use upkeep::World;
 #[derive(Drop)]
 pub struct SegmentAccountant<H> {
     pub(crate) world: World<H>,
-    // Whether a start was accepted.
+    // Whether a start was accepted. A flag beside the books, and no Option around them: their room is made before there are any.
     pub(crate) started: bool,
     // Where a replacement is worked out, and where a stabilize gathers what it deactivates.
     pub(crate) scratch: Scratch,

@@ -21,10 +21,7 @@ use table::Table;
 fn is_lying(pages: &Table<PageRow, MAX_PAGE_ROWS>, n: SegmentId, page: PageId) -> bool
     ensures { result ≡ is_lying (page_row (held pages.now) n page) }
 {
-    match pages.get((n, page)) {
-        Some(row) => !row.left,
-        None => false,
-    }
+    pages.get((n, page)).is_some_and(|row| !row.left)
 }
 
 fn check_lying(base: Lsn, lsn: Lsn, lies: bool, more: bool) -> Result<(), Refusal>

@@ -59,7 +59,7 @@ impl SpareBlobs {
         ensures { held self.new.rows ≡ with_blob n keep (blob_of old.now.pointer) (held self.old.rows) }
     {
         if let Some(blob) = old.pointer.blob()
-            && !is_kept(keep, blob)
+            && keep != Some(blob)
         {
             self.put(BlobRow { segment: n, blob });
         }
@@ -99,14 +99,5 @@ impl SpareBlobs {
             return Err(Refusal::BlobRowsFull);
         }
         Ok(())
-    }
-}
-
-fn is_kept(keep: Option<BlobPointer>, blob: BlobPointer) -> bool
-    ensures { result ≡ same_blob keep blob }
-{
-    match keep {
-        Some(kept) => kept == blob,
-        None => false,
     }
 }

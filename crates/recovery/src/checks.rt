@@ -23,12 +23,7 @@ fn in_segments(segment_size: u64, extent: u64) -> u64
     requires { 256 ≤ segment_size }
     ensures { result ≡ in_segments segment_size extent }
 {
-    let whole = extent / segment_size;
-    if extent % segment_size == 0 {
-        whole
-    } else {
-        whole + 1
-    }
+    extent.div_ceil(segment_size)
 }
 
 // The segments of a file, and one more for an active offset in exactly the next.

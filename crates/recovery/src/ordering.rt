@@ -43,8 +43,8 @@ fn order_segments(
     requires fits { length segments.now * segment_size < 2 ^ 64 }
     ensures rows { outcome result (held ordering.new) ≡ order_all segment_size 0 (states segments.now) (held ordering.old) }
 {
-    for n in 0..segments.len() {
-        order_state(ordering, &segments[n].state, n as u64 * segment_size)?;
+    for (n, segment) in segments.iter().enumerate() {
+        order_state(ordering, &segment.state, n as u64 * segment_size)?;
     }
     Ok(())
 }

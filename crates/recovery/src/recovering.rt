@@ -71,7 +71,7 @@ fn recover_page(ledger: &mut Ledger, plan: &Plan<'_>, page: usize) -> Result<(),
     }
 }
 
-// All pages are recovered in turn.
+// All pages are recovered in turn. By number, which is the page's name.
 pub fn recover_pages(ledger: &mut Ledger, plan: &Plan<'_>) -> Result<(), Refusal>
     requires kept { Recoverable (books_of ledger.old) }
     requires lsns { every in_range plan.now.snapshot.rows.now ≡ true }

@@ -34,7 +34,7 @@ pub struct FreeableRow {
     pub lsn: Lsn,
 }
 
-// A cut that the host refused.
+// A cut that the host refused. The code is a number of the host's own.
 #[derive(Clone, Copy)]
 pub struct FaultRow {
     pub offset: LogOffset,

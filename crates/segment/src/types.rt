@@ -1,13 +1,8 @@
 // The numbers of the log, under the names that the crate sled gives them.
+pub use host::{BlobPointer, LogOffset};
 
 // A position in the endless log.
 pub type Lsn = i64;
-
-// A position in the file.
-pub type LogOffset = u64;
-
-// The name of a blob file.
-pub type BlobPointer = i64;
 
 // The number of a page.
 pub type PageId = u64;

@@ -46,7 +46,7 @@ fn free_state<H: Host>(world: &mut World<H>, n: SegmentId) -> Result<(), HostFau
     fill_at(world, n)
 }
 
-// The segments in turn, until the host refuses a fill.
+// The segments in turn, until the host refuses a fill. By number: freeing one changes the ledger, which an iterator would borrow.
 pub fn free_all<H: Host>(world: &mut World<H>) -> Result<(), HostFault>
     requires { Recovered (books_of world.old.ledger) }
     ensures { (result, seen H.Host.model world.new) ≡ free_all H.Host.respond 0 (books_of world.old.ledger).segments (seen H.Host.model world.old) }

@@ -1,4 +1,5 @@
-// Keys: values in a total order, which the rows of a table are sorted by.
+// Keys: values in a total order, which the rows of a table are sorted by. A trait of its own: `Ord` has no law that keys which compare
+// equal are one key.
 ghost use Rattle.std.specs.Prelude.{◌≡◌};
 ghost use Rattle.std.specs.declared.cmp.Ordering.{Ordering};
 ghost use Rattle.table.specs.Order.{Lawful, unsigned_lawful, signed_lawful, lexical, lexical_lawful};

@@ -1,4 +1,5 @@
-// Search and edits over lent slices. An edit takes the rows to be the first `len` places of the slice.
+// Search and edits over lent slices, which an edit wants to have room behind their rows: a rule of the project. So the number of the rows
+// stands beside the slice.
 ghost use Rattle.std.specs.Prelude.{◌≡◌, ◌+◌, ◌-◌, ◌<◌, ◌≤◌, true, [], ◌∷◌, ◌++◌, length, take, drop, is_some, is_ok, Some, None, MatchResult, slice_index_or, slice_set};
 ghost use Rattle.std.specs.List.{insert, remove};
 ghost use Rattle.std.specs.Option.{option_to_list};

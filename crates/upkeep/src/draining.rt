@@ -100,27 +100,23 @@ pub fn holder(ledger: &Ledger, lsn: Lsn) -> Option<SegmentId>
     is_active_at(ledger, n).then_some(n)
 }
 
-// The segment, Free if it was Draining, and the LSN that it had.
+// The segment, which is Draining, becomes Free. Answers it with the LSN that it had.
 fn empty_segment(segment: Segment) -> (Segment, Lsn)
+    requires { (d : DrainingRecord) × (segment.state ≡ is.Draining d) }
     ensures { (d : DrainingRecord) → segment.state ≡ is.Draining d → (result.0.state ≡ is.Free (emptied d)) × (result.1 ≡ d.lsn) }
 {
-    match segment.state {
-        State::Draining(draining) => {
-            let lsn = draining.lsn;
-            (
-                Segment {
-                    state: State::Free(draining.free()),
-                },
-                lsn,
-            )
-        }
-        state => (Segment { state }, 0),
-    }
+    let State::Draining(draining) = segment.state else {
+        unreachable!()
+    };
+    let lsn = draining.lsn;
+    let state = State::Free(draining.free());
+    (Segment { state }, lsn)
 }
 
 // Segment n, which is Draining, becomes Free. Answers the LSN that it had.
 pub fn empty(ledger: &mut Ledger, n: SegmentId) -> Lsn
-    requires { n < length (books_of ledger.old).segments }
+    requires reached { n < length (books_of ledger.old).segments }
+    requires draining { (d : DrainingRecord) × (state_of (books_of ledger.old) n ≡ is.Draining d) }
     ensures { (d : DrainingRecord) → state_of (books_of ledger.old) n ≡ is.Draining d → (books_of ledger.new ≡ emptied_at n d (books_of ledger.old)) × (result ≡ d.lsn) }
 {
     let (segment, lsn) = empty_segment(ledger.segments.take_out(n));

@@ -9,7 +9,7 @@ use crate::types::Lsn;
 
 impl Segment {
     // A page of this size is replaced, from this base on. Answers the segment after, and whether the page leaves it:
-    // it stays where the replacement lies in the same segment.
+    // it stays where the replacement lies in the same segment. Both come of one match on the states: a rule of the project.
     pub fn remove_pid(self, base: Lsn, size: u64) -> (Segment, bool)
         requires { may_take size self.state ≡ true }
         ensures state { result.0.state ≡ taken base size self.state }

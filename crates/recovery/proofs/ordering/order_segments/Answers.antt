@@ -3,6 +3,7 @@ use Rattle.std.proofs.Common.{◌*◌, ◌<◌, ◌≤◌, length, Err, sym, ap,
 use Rattle.std.proofs.lemmas.List.{length-map}
 use Rattle.std.proofs.lemmas.Result.{err_from_is_err_and}
 use Rattle.table.specs.Held.{held}
+use Rattle.segment.specs.declared.segment.Segment.{Segment}
 use Rattle.rules.specs.Starting.{order_state}
 use Rattle.ledger.specs.States.{states}
 use Rattle.recovery.specs.Outcomes.{outcome}
@@ -19,7 +20,7 @@ returns-in_err-order_state c =
     let n = c.loop-n.n in
     let size = c.args.segment_size in
     let low = subst (λ k. n < k) (sym (length-map c.args.segments.now (λ s. s.state))) c.loop-n-test.true in
-    let state = state_read c.args.segments.now n c.index-segments-n.result c.loop-n-test.true in
+    let state = ap (λ (s : Segment). s.state) c.index-segments-n.is ∙ state_read c.args.segments.now n c.index-segments-n.result c.loop-n-test.true in
     let e = c.in_err-order_state.ensures in
     record {
       rows = ap (λ r. outcome r (held c.order_state.new.ordering)) p.1 ∙ order_stop size n all (held c.loop-n.ordering) _ c.loop-n.invariant.1 p.0 low (ap Err p.2 ∙ (e.rows ∙ ap (λ s. order_state (n * size) s (held c.loop-n.ordering)) state));
@@ -31,7 +32,7 @@ loop-n-preserved c =
     let n = c.loop-n.n in
     let size = c.args.segment_size in
     let low = subst (λ k. n < k) (sym (length-map c.args.segments.now (λ s. s.state))) c.loop-n-test.true in
-    let state = state_read c.args.segments.now n c.index-segments-n.result c.loop-n-test.true in
+    let state = ap (λ (s : Segment). s.state) c.index-segments-n.is ∙ state_read c.args.segments.now n c.index-segments-n.result c.loop-n-test.true in
     let e = c.in_ok-order_state.ensures in
     let m = e.more in
     let k = c.loop-n.invariant.0 in
