@@ -2,7 +2,7 @@
 ghost use Rattle.std.specs.Prelude.{◌≡◌};
 ghost use Rattle.segment.specs.Pointers.{lid_of, blob_of, inline, blob};
 
-use crate::types::{BlobPointer, LogOffset};
+use host::{BlobPointer, LogOffset};
 
 // A pointer to a location in the log, or to a blob off the log.
 #[derive(Clone, Copy)]

@@ -15,10 +15,11 @@ mod updates;
 
 pub use cache_info::CacheInfo;
 pub use disk_pointer::DiskPtr;
+pub use host::{BlobPointer, LogOffset};
 pub use lsn::base;
 pub use pages::{page_rows, page_state};
 pub use rows::{BlobRow, FaultRow, FreeableRow, OrderingRow, PageRow};
 pub use segment::Segment;
 pub use snapshot::{PageEntry, PageState, RowKind, Snapshot, SnapshotRow, UnknownKind};
 pub use state::{Active, Draining, Free, Inactive, State};
-pub use types::{BlobPointer, LogOffset, Lsn, PageId, SegmentId};
+pub use types::{Lsn, PageId, SegmentId};

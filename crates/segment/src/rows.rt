@@ -1,7 +1,8 @@
 // The rows that the books keep, each with its key.
 ghost use Rattle.segment.specs.Rows.{ordering_key, page_key, blob_key, freeable_key, fault_key};
 
-use crate::types::{BlobPointer, LogOffset, Lsn, PageId, SegmentId};
+use crate::types::{Lsn, PageId, SegmentId};
+use host::{BlobPointer, LogOffset};
 use table::{Key, Row};
 
 // Where the log goes on from an LSN.

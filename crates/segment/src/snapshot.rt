@@ -1,6 +1,7 @@
 // The snapshot that the segments are recovered from: what was stable, and where each page lies.
 use crate::disk_pointer::DiskPtr;
-use crate::types::{LogOffset, Lsn};
+use crate::types::Lsn;
+use host::LogOffset;
 
 // An entry of a page in the log, as it stands in a snapshot. The kind is a number, since a damaged snapshot may hold any.
 #[derive(Clone, Copy)]

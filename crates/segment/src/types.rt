@@ -1,5 +1,4 @@
 // The numbers of the log, under the names that the crate sled gives them.
-pub use host::{BlobPointer, LogOffset};
 
 // A position in the endless log.
 pub type Lsn = i64;
