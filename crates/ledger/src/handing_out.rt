@@ -23,14 +23,6 @@ use rules::Refusal;
 use segment::{Free, LogOffset, Lsn, OrderingRow, PageId, PageRow, Segment, SegmentId, State};
 use table::Table;
 
-// An LSN as a position.
-fn position(lsn: Lsn) -> u64
-    requires { out_of_range lsn ≡ false }
-    ensures { result ≡ unsigned_abs lsn }
-{
-    lsn as u64
-}
-
 // Takes the least offset from the free list; the tip rises by a segment where there is none. Answers the tip.
 fn leave(free: &mut Table<LogOffset, MAX_SEGMENTS>, tip: LogOffset, segment_size: u64) -> LogOffset
     requires { tip + segment_size < 2 ^ 64 }
@@ -124,7 +116,7 @@ impl Ledger {
         requires kept { Shared (books_of self.old) }
         ensures { (result, books_of self.new) ≡ next_at lsn (books_of self.old) }
     {
-        let at = position(lsn);
+        let at = lsn.unsigned_abs();
         if at % self.segment_size != 0 {
             return Err(Refusal::Unaligned);
         }

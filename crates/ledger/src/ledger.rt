@@ -12,6 +12,7 @@ pub const MAX_BLOB_ROWS: usize = 512;
 
 #[derive(Drop)]
 pub struct Ledger {
+    // 0 before a start: what divides by it asks that it is not.
     pub segment_size: u64,
     pub segments: Segments,
     // Where the file is extended next.

@@ -1,4 +1,4 @@
-// The range of LSNs.
+// The range of LSNs. They come as plain numbers in calls, rows and entries, and are tested once for each call.
 ghost use Rattle.std.specs.Prelude.{◌≡◌};
 ghost use Rattle.rules.specs.Links.{out_of_range};
 

@@ -12,7 +12,8 @@ pub struct OrderingRow {
     pub offset: LogOffset,
 }
 
-// A page that was written into a segment. It may have left it, and it may be queued to be rewritten.
+// A page that was written into a segment. It may have left it, and it may be queued to be rewritten: a flag for each, since a queued
+// page may leave.
 #[derive(Clone, Copy)]
 pub struct PageRow {
     pub segment: SegmentId,

@@ -30,7 +30,7 @@ fn drain_segment(segment: Segment) -> Segment
 }
 
 // Segment n, which is Inactive, becomes Draining, its pages are queued and its offset is listed.
-pub fn start_draining(ledger: &mut Ledger, n: SegmentId)
+pub(crate) fn start_draining(ledger: &mut Ledger, n: SegmentId)
     requires kept { KeptWithin (books_of ledger.old) }
     requires inactive { is_inactive (state_of (books_of ledger.old) n) ≡ true }
     ensures { (i : InactiveRecord) → state_of (books_of ledger.old) n ≡ is.Inactive i → books_of ledger.new ≡ start_draining n i (books_of ledger.old) }
@@ -62,7 +62,7 @@ fn is_drained(ledger: &Ledger, n: SegmentId) -> bool
 }
 
 // Segment n starts draining if it is Inactive and at most half of it is live.
-pub fn drain_if_empty(ledger: &mut Ledger, n: SegmentId)
+pub(crate) fn drain_if_empty(ledger: &mut Ledger, n: SegmentId)
     requires { KeptWithin (books_of ledger.old) }
     ensures { books_of ledger.new ≡ drain_if_empty n (books_of ledger.old) }
 {
@@ -72,7 +72,7 @@ pub fn drain_if_empty(ledger: &mut Ledger, n: SegmentId)
 }
 
 // Of segment n, if it is Draining and its pages have all left, the LSN of its latest replacement.
-pub fn all_left(ledger: &Ledger, n: SegmentId) -> Option<Lsn>
+pub(crate) fn all_left(ledger: &Ledger, n: SegmentId) -> Option<Lsn>
     ensures { result ≡ all_left (state_of (books_of ledger.now) n) }
 {
     match ledger.state(n) {
@@ -91,7 +91,7 @@ pub(crate) fn is_active_at(ledger: &Ledger, n: SegmentId) -> bool
 }
 
 // The Active segment that the ordering has under this LSN.
-pub fn holder(ledger: &Ledger, lsn: Lsn) -> Option<SegmentId>
+pub(crate) fn holder(ledger: &Ledger, lsn: Lsn) -> Option<SegmentId>
     requires { 0 < ledger.now.segment_size }
     ensures { result ≡ holder (books_of ledger.now) lsn }
 {
@@ -114,7 +114,7 @@ fn empty_segment(segment: Segment) -> (Segment, Lsn)
 }
 
 // Segment n, which is Draining, becomes Free. Answers the LSN that it had.
-pub fn empty(ledger: &mut Ledger, n: SegmentId) -> Lsn
+pub(crate) fn empty(ledger: &mut Ledger, n: SegmentId) -> Lsn
     requires reached { n < length (books_of ledger.old).segments }
     requires draining { (d : DrainingRecord) × (state_of (books_of ledger.old) n ≡ is.Draining d) }
     ensures { (d : DrainingRecord) → state_of (books_of ledger.old) n ≡ is.Draining d → (books_of ledger.new ≡ emptied_at n d (books_of ledger.old)) × (result ≡ d.lsn) }
@@ -125,7 +125,7 @@ pub fn empty(ledger: &mut Ledger, n: SegmentId) -> Lsn
 }
 
 // Segment t holds back the segment with this LSN.
-pub fn hold(ledger: &mut Ledger, t: SegmentId, lsn: Lsn)
+pub(crate) fn hold(ledger: &mut Ledger, t: SegmentId, lsn: Lsn)
     requires { length (held_by t lsn (books_of ledger.old)).freeable ≤ 256 }
     ensures { books_of ledger.new ≡ held_by t lsn (books_of ledger.old) }
 {

@@ -1,4 +1,5 @@
-// The books and the host below.
+// The books and the host below. What the books keep is asked and told by the steps, and is no field here: a start makes kept books of
+// blank ones in place.
 use ledger::Ledger;
 
 #[derive(Drop)]
