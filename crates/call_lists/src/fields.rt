@@ -1,6 +1,5 @@
 // The fields of a statement, read as what they stand for.
 ghost use Rattle.std.specs.Prelude.{◌≡◌, ℕ, Err, IfErr, List, MatchResult, Ok, Result, slice_index, ◌≢◌};
-ghost use Rattle.std.specs.Int.{w64};
 ghost use Rattle.call_lists.specs.Numbers.{OrNone, Signed, UnsignedOf};
 ghost use Rattle.call_lists.specs.Signs.{signed_plain, signed_plus, unsigned_plain, unsigned_plus};
 ghost use Rattle.call_lists.specs.declared.reason.Reason.{Reason};

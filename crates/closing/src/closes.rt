@@ -1,5 +1,5 @@
 // Closing a segment: it becomes Inactive, and its blob rows go.
-ghost use Rattle.std.specs.Prelude.{◌≡◌, ◌<◌, ◌≤◌, true, length};
+ghost use Rattle.std.specs.Prelude.{◌≡◌, ◌<◌, ◌≤◌, length};
 ghost use Rattle.table.specs.Held.{held};
 ghost use Rattle.segment.specs.Changes.{closed};
 ghost use Rattle.segment.specs.declared.state.Active.{Active};

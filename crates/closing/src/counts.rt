@@ -1,5 +1,5 @@
 // How many pages were written into a segment, and how many of them have left.
-ghost use Rattle.std.specs.Prelude.{◌≡◌, ◌<◌, true, length, filter};
+ghost use Rattle.std.specs.Prelude.{◌≡◌, ◌<◌, length, filter};
 ghost use Rattle.table.specs.Held.{held};
 ghost use Rattle.rules.specs.Pages.{page_count, left_count};
 

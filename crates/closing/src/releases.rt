@@ -1,5 +1,5 @@
 // The segments that a segment holds back.
-ghost use Rattle.std.specs.Prelude.{◌≡◌, ◌<◌, true};
+ghost use Rattle.std.specs.Prelude.{◌≡◌, ◌<◌};
 ghost use Rattle.table.specs.Held.{held};
 ghost use Rattle.table.specs.Rows.{first_of, remove_row};
 ghost use Rattle.segment.specs.Rows.{freeable_key, by_signed};

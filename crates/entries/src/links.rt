@@ -1,6 +1,5 @@
 // Link: its checks.
 ghost use Rattle.std.specs.Prelude.{◌≡◌, ◌<◌, ◌≤◌, true, false};
-ghost use Rattle.table.specs.Held.{held};
 ghost use Rattle.segment.specs.Bases.{base_of};
 ghost use Rattle.segment.specs.Bounds.{bounded};
 ghost use Rattle.segment.specs.declared.state.State.TheVariants as is;

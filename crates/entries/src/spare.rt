@@ -5,7 +5,7 @@ ghost use Rattle.table.specs.Rows.{ascending, insert_row};
 ghost use Rattle.segment.specs.Pointers.{blob_of};
 ghost use Rattle.segment.specs.Rows.{blob_key, by_signed};
 ghost use Rattle.rules.specs.Links.{first_refusal};
-ghost use Rattle.rules.specs.Replacing.{given_up, same_blob, with_blob};
+ghost use Rattle.rules.specs.Replacing.{given_up, with_blob};
 ghost use Rattle.rules.specs.declared.refusal.Refusal.TheVariants as no;
 ghost use Rattle.ledger.specs.Verdicts.{verdict};
 

@@ -1,11 +1,8 @@
 -- The states of a ledger's segments, written one by one.
-use Rattle.std.proofs.Common.{◌≡◌, ℕ, ◌<◌, ◌≤◌, cond, List, [], ◌∷◌, ◌++◌, length, get_or, set, vec_items, vec_len, Vec, sym, ap, ◌∙◌, subst, arith, length-set}
-use Rattle.std.specs.declared.alloc.Global.{Global}
-use Rattle.std.proofs.lemmas.List.{get_or-map, length-map, get_or_past, set-set}
+use Rattle.std.proofs.Common.{◌≡◌, ℕ, ◌<◌, ◌≤◌, cond, List, [], ◌∷◌, ◌++◌, length, set, sym, ap, ◌∙◌, subst, length-set}
+use Rattle.std.proofs.lemmas.List.{set-set}
 use Rattle.std.proofs.lemmas.Bool.{lt-ltb, le-ltb}
-use Rattle.segment.specs.declared.segment.Segment.{Segment}
 use Rattle.segment.specs.declared.state.State.{State}
-use Rattle.rules.specs.Books.{unused}
 use Rattle.rules.specs.HandingOut.{entered}
 
 -- a segment that is moved out, changed and written back

@@ -1,5 +1,5 @@
 // Freeing a segment, and lowering the tip over the free ones at the end.
-ghost use Rattle.std.specs.Prelude.{◌≡◌, ◌-◌, ◌*◌, ◌^◌, ◌<◌, ◌≤◌, true, length, Ok, Err, ◌≢◌};
+ghost use Rattle.std.specs.Prelude.{◌≡◌, ◌-◌, ◌*◌, ◌^◌, ◌<◌, ◌≤◌, length, Ok, Err, ◌≢◌};
 ghost use Rattle.table.specs.Held.{held};
 ghost use Rattle.rules.specs.Books.{with_faults};
 ghost use Rattle.rules.specs.Freeing.{put_free, unordered, can_cut, lowered, remembered};

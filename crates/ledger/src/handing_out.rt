@@ -1,5 +1,5 @@
 // Handing out a segment to the log, and naming the page to rewrite next.
-ghost use Rattle.std.specs.Prelude.{◌≡◌, ◌+◌, ◌*◌, ◌^◌, ◌<◌, ◌≤◌, true, false, [], length, pos, ◌≤ℤ◌, Ok, Err, vec_capacity, unsigned_abs};
+ghost use Rattle.std.specs.Prelude.{◌≡◌, ◌+◌, ◌*◌, ◌^◌, ◌<◌, ◌≤◌, false, length, Ok, Err};
 ghost use Rattle.table.specs.Held.{held};
 ghost use Rattle.table.specs.Rows.{first_of};
 ghost use Rattle.segment.specs.Changes.{opened};

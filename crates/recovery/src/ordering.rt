@@ -1,5 +1,5 @@
 // The Active segments enter the ordering.
-ghost use Rattle.std.specs.Prelude.{◌≡◌, ◌+◌, ◌*◌, ◌^◌, ◌<◌, ◌≤◌, true, length};
+ghost use Rattle.std.specs.Prelude.{◌≡◌, ◌+◌, ◌*◌, ◌^◌, ◌<◌, ◌≤◌, length};
 ghost use Rattle.table.specs.Held.{held};
 ghost use Rattle.rules.specs.Starting.{order_state, order_all, ordered};
 ghost use Rattle.ledger.specs.Ledgers.{books_of};

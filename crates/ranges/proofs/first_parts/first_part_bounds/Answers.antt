@@ -1,5 +1,5 @@
 -- Rows that ascend have those with a lower first part in front, and then those with this one: each closure tells one end.
-use Rattle.std.proofs.Common.{◌≡◌, ℕ, length, filter, rules}
+use Rattle.std.proofs.Common.{rules}
 use Rattle.std.specs.Ordering.{is_lt, is_le}
 use Rattle.std.proofs.lemmas.List.Sorted.{IsPartitionPoint-from_clause}
 use Rattle.table.specs.Order.{lexical_lawful}
