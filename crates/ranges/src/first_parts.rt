@@ -1,9 +1,9 @@
 // The rows of a table whose keys are pairs with one first part.
-ghost use Rattle.std.specs.Prelude.{◌≡◌, ◌≤◌, ◌-◌, true, not, ◌++◌, length, take, drop, filter};
+ghost use Rattle.std.specs.Prelude.{◌≡◌, ◌≤◌, ◌+◌, ◌-◌, true, not, ◌++◌, length, take, drop, filter};
 ghost use Rattle.std.specs.Ordering.{is_eq};
 ghost use Rattle.table.specs.Held.{held};
 ghost use Rattle.table.specs.Order.{lexical};
-ghost use Rattle.table.specs.Ranges.{of_first};
+ghost use Rattle.table.specs.Ranges.{count_lower, of_first};
 ghost use Rattle.table.specs.Rows.{ascending};
 
 use table::{Key, Row, Table};
@@ -14,6 +14,7 @@ pub fn first_part_bounds<A: Key, B: Key, R: Row<Key = (A, B)>>(
     first: A,
 ) -> (usize, usize)
     requires { ascending R.Row.keyed (lexical A.Key.rank B.Key.rank) rows.now ≡ true }
+    ensures value { result ≡ (count_lower R.Row.keyed A.Key.rank rows.now first, count_lower R.Row.keyed A.Key.rank rows.now first + length (of_first R.Row.keyed A.Key.rank rows.now first)) }
     ensures within { (result.0 ≤ result.1) × (result.1 ≤ length rows.now) }
     ensures part { take (result.1 - result.0) (drop result.0 rows.now) ≡ of_first R.Row.keyed A.Key.rank rows.now first }
     ensures rest { take result.0 rows.now ++ drop result.1 rows.now ≡ filter (λ row. not (is_eq (A.Key.rank (R.Row.keyed row).0 first))) rows.now }

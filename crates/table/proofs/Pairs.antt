@@ -96,7 +96,7 @@ module _ {X A B : Type 0} (key : X → A × B) {r : A → A → Ordering} {s : B
   second_range rows p from until = kept_same (λ x. inside (lexical r s) (p, from) (p, until) (key x)) (λ x. is_eq (r (key x).0 p) && inside s from until (key x).1) rows (λ x. second_inside (r (key x).0 p) (s (key x).1 from) (s (key x).1 until))
 
   -- ---- the places of one first part
-  lower_or_same : (rows : List X) (p : A) → length (filter (λ x. is_le (r (key x).0 p)) rows) ≡ count_lower key r rows p + length (of_first key r rows p)
+  pub lower_or_same : (rows : List X) (p : A) → length (filter (λ x. is_le (r (key x).0 p)) rows) ≡ count_lower key r rows p + length (of_first key r rows p)
   lower_or_same [] p = refl
   lower_or_same (x ∷ xs) p = on (r (key x).0 p) (lower_or_same xs p)
     where
