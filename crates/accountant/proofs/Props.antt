@@ -13,7 +13,6 @@ use Rattle.orders.specs.Within.{Within}
 use Rattle.orders.specs.Looks.{label, Looking}
 use Rattle.orders.specs.Counts.{Counted, Counting}
 use Rattle.orders.specs.Share.{Shared}
-use Rattle.orders.specs.Always.{IfAny}
 
 -- a type that is told apart by numbers has no two proofs of an equation
 coded : {X : Type 0} (code : X → ℕ × ℕ) → ((x y : X) → code x ≡ code y → x ≡ y) → IsSet X
@@ -127,7 +126,3 @@ shared_prop b x y = λ i. record {
   };
   share = ℕ_set _ _ x.share y.share i;
 }
-
-pub if_any_prop : (o : Option Books) → IsProp (IfAny Shared o)
-if_any_prop None = Unit-prop
-if_any_prop (Some b) = shared_prop b
