@@ -1,5 +1,5 @@
 -- What the books keep, in and out of the accountant.
-use Rattle.std.proofs.Common.{◌≡◌, Bool, true, false, Some, sym, refl, true≢false}
+use Rattle.std.proofs.Common.{◌≡◌, Bool, true, false, Some, Option, sym, subst, true≢false}
 use mathlib.Core.Logic.{∥∥₁_elim}
 use Rattle.rules.specs.Books.{Books}
 use Rattle.orders.specs.Always.{IfAny}
@@ -12,11 +12,7 @@ pub taken_out : (t : Bool) (b : Books) → t ≡ true → ∥ IfAny Shared (book
 taken_out true b e k = ∥∥₁_elim k (shared_prop b) (λ s. s)
 taken_out false b e k = absurd (true≢false (sym e))
 
-pub put_in : (t : Bool) (b : Books) → Shared b → ∥ IfAny Shared (books_if t b) ∥₁
-put_in true b s = ∣ s ∣₁
-put_in false b s = ∣ tt ∣₁
-
--- with a started accountant the books are there
-pub books_there : (t : Bool) (b : Books) → t ≡ true → books_if t b ≡ Some b
-books_there true b e = refl
-books_there false b e = absurd (true≢false (sym e))
+-- and still has, where a call leaves books that keep all
+pub still_kept : (t : Bool) (b after : Books) (o : Option Books) → t ≡ true → ∥ IfAny Shared (books_if t b) ∥₁ → Some after ≡ o → (Shared b → IfAny Shared o) → ∥ IfAny Shared (books_if t after) ∥₁
+still_kept true b after o e k q keeps = ∣ subst (IfAny Shared) (sym q) (keeps (taken_out true b e k)) ∣₁
+still_kept false b after o e k q keeps = ∣ tt ∣₁

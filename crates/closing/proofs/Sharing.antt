@@ -70,12 +70,6 @@ last_found k (s ∷ l) = on (last_inactive (suc k) l) (last_found (suc k) l)
         let e : x.0 - k ≡ suc (x.0 - suc k) = omega (arith, h.0) in
         (omega (arith, h.0), omega (arith, h.1), ap (λ j. get_or (s ∷ l) j unused) e ∙ h.2)
 
--- the share, as it is counted
-pub share_counted : (b : Books) (free held count : ℕ) (t : Bool) → free_below_tip b ≡ length b.free + length b.freeable → free ≡ length b.free → held ≡ length b.freeable → count ≡ inactive_count b → t ≡ much_is_free (free + held) count → much_is_free (free_below_tip b) (inactive_count b) ≡ t
-share_counted b free held count t s f h c e =
-    let z : free_below_tip b ≡ free + held = s ∙ (λ i. sym f i + sym h i) in
-    (λ i. much_is_free (z i) (sym c i)) ∙ sym e
-
 -- where much is free, it is drained
 pub drains_last : (b : Books) (r : Option ℕ) → much_is_free (free_below_tip b) (inactive_count b) ≡ true → r ≡ number_from 0 b.segments → Drains b r
 drains_last b r t e = subst (Drains b) (sym e) (on (last_inactive 0 b.segments) refl (last_found 0 b.segments))
@@ -85,7 +79,3 @@ drains_last b r t e = subst (Drains b) (sym e) (on (last_inactive 0 b.segments) 
     on (Some x) f h =
         let z : x.0 - 0 ≡ x.0 = omega arith in
         (x.1, omega (arith, h.1), ap (λ j. get_or b.segments j unused) (sym z) ∙ h.2, ap (λ u. cond u (drain_found (last_inactive 0 b.segments) b) b) t ∙ ap (λ o. drain_found o b) f)
-
--- and else nothing is
-pub drains_none : (b : Books) → much_is_free (free_below_tip b) (inactive_count b) ≡ false → Drains b None
-drains_none b t = ap (λ u. cond u (drain_found (last_inactive 0 b.segments) b) b) t

@@ -10,6 +10,7 @@ use Rattle.table.proofs.Places.{place_at}
 use Rattle.table.proofs.Edits.{found_by, put_of}
 use Rattle.segment.specs.declared.rows.PageRow.{PageRow}
 use Rattle.rules.specs.Pages.{is_in, queued_row, rows_of, rows_off}
+use Rattle.ledger.proofs.Walks.{every_parts}
 use Rattle.closing.specs.Queued.{queued_if}
 
 module _ {X : Type 0} (f : X → X) where
@@ -59,22 +60,15 @@ module _ {X : Type 0} (f : X → X) where
   behind_alone p h (suc i) [] e = refl
   behind_alone p h (suc i) (x ∷ xs) e = ap (λ l. f x ∷ l) (behind_alone p h i xs e)
 
--- what a test keeps passes it, and so does each part of it
+-- what a test keeps passes it
 module _ {X : Type 0} (p : X → Bool) where
-  pub kept_pass : (xs : List X) → every p (filter p xs) ≡ true
+  kept_pass : (xs : List X) → every p (filter p xs) ≡ true
   kept_pass [] = refl
   kept_pass (x ∷ xs) = on (p x) refl (kept_pass xs)
     where
       on : (b : Bool) → p x ≡ b → every p (filter p xs) ≡ true → every p (cond b (x ∷ filter p xs) (filter p xs)) ≡ true
       on true e ih = rw e ih
       on false e ih = ih
-
-  pub every_parts : (xs ys : List X) → every p (xs ++ ys) ≡ true → (every p xs ≡ true) × (every p ys ≡ true)
-  every_parts [] ys h = (refl, h)
-  every_parts (x ∷ xs) ys h =
-      let hs = and_parts (p x) (every p (xs ++ ys)) h in
-      let r = every_parts xs ys hs.1 in
-      (rw hs.0 r.0, r.1)
 
 module _ {X K : Type 0} (key : X → K) {rank : K → K → Ordering} (laws : Lawful rank) where
   -- a row over another of the same key stands in its place
@@ -100,12 +94,6 @@ other_alone n row e = ap (λ t. cond (t && not row.left) (queued_row true row) r
 
 pub own_queued : (n : ℕ) (row : PageRow) → is_in n row ≡ true → queued_if row ≡ queued_in n row
 own_queued n row e = ap (λ t. cond (t && not row.left) (queued_row true row) row) (sym e)
-
-pub lying_queued : (x y : PageRow) → x ≡ y → x.left ≡ false → queued_row true x ≡ queued_if y
-lying_queued x y e l = ap (λ t. cond (not t) (queued_row true x) x) (sym l) ∙ ap queued_if e
-
-pub left_alone : (x y : PageRow) → x ≡ y → x.left ≡ true → y ≡ queued_if y
-left_alone x y e l = sym (ap (λ t. cond (not t) (queued_row true y) y) (sym (ap (λ r. r.left) e) ∙ l))
 
 -- the rows before the range of segment n, and those behind it, are of other segments
 pub outside_range : (n start end : ℕ) (slice pages : List PageRow) → slice ≡ pages → take start slice ++ drop end slice ≡ rows_off n slice → (every (λ row. not (is_in n row)) (take start pages) ≡ true) × (every (λ row. not (is_in n row)) (drop end pages) ≡ true)

@@ -1,7 +1,6 @@
 pub mod Accepted
 pub mod AsLinked
 pub mod Gives
-pub mod InOrder
 pub mod Lengths
 pub mod Linkable
 pub mod Summing

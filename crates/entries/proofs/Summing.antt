@@ -2,7 +2,7 @@
 use Rattle.std.proofs.Common.{◌≡◌, ℕ, ◌+◌, ◌*◌, ◌^◌, ◌<◌, ◌≤◌, Bool, true, false, not, ltb, leb, List, [], ◌∷◌, length, get_or, drop, Some, None, Ordering, Less, Equal, Greater, sym, refl, ap, ◌∙◌, subst, arith}
 use Rattle.std.specs.Cmp.{ranks}
 use Rattle.std.specs.Ordering.{MatchOrdering, nat_cmp}
-use Rattle.std.proofs.lemmas.List.{drop_more, drop_all}
+use Rattle.std.proofs.lemmas.List.{drop_more}
 use Rattle.std.proofs.lemmas.Bool.{and_parts, le-leb, leb-true, lt-ltb, le-ltb, ltb-false, not-true, cond-true, cond-false}
 use Rattle.table.specs.Rows.{by, every, find, insert_row}
 use Rattle.table.proofs.Orders.{every_at}
@@ -55,9 +55,6 @@ old_small olds i d h l = ltb-false _ _ (not-true _ (every_at small olds i d h l)
 abbrev with_old : Books → CacheInfo → List SumRow → List SumRow
 with_old b old rows = insert_row sum_key nat_cmp rows (sum_row (info_segment b old) (size_in (find sum_key nat_cmp rows (info_segment b old)) + old.log_size))
 
-pub summed_none : (b : Books) (olds : List CacheInfo) (rows : List SumRow) → rows ≡ [] → Summed b olds 0 rows
-summed_none b olds rows e = subst (Summed b olds 0) (sym e) (refl, omega arith, refl)
-
 -- the next sum is a number of 64 bits
 pub summed_fits : (b : Books) (olds : List CacheInfo) (i : ℕ) (d : CacheInfo) (rows : List SumRow) → length olds ≤ 256 → every small olds ≡ true → i < length olds → Summed b olds i rows → size_in (find sum_key nat_cmp rows (info_segment b (get_or olds i d))) + (get_or olds i d).log_size < 2 ^ 64
 summed_fits b olds i d rows few h l s =
@@ -78,6 +75,3 @@ summed_more b olds i d rows after h l (s0, s1, s2) e =
       omega arith,
       every_insert (λ row. leb row.size ((i + 1) * 4294967295)) sum_key nat_cmp rows _ (le-leb _ _ (omega arith)) (every_weaker (λ row. leb row.size (i * 4294967295)) _ rows (λ row g. let q = leb-true _ _ g in le-leb _ _ (omega arith)) s2),
     )
-
-pub summed_end : (b : Books) (olds : List CacheInfo) (i : ℕ) (rows : List SumRow) → length olds ≤ i → Summed b olds i rows → pairs rows ≡ sums_of b olds
-summed_end b olds i rows l s = sym (ap (λ os. sums_onto b os (pairs rows)) (drop_all i olds l)) ∙ s.0

@@ -1,5 +1,4 @@
 pub mod Covering
-pub mod Checking
 pub mod RowSteps
 pub mod RowWalks
 pub mod OrderWalks

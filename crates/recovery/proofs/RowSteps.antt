@@ -1,7 +1,7 @@
 -- One row: it is refused where the checks refuse it, and what it leaves is within the bounds again.
-use Rattle.std.proofs.Common.{◌≡◌, ℕ, ◌<◌, ◌≤◌, true, false, cond, not, length, get_or, ℤ, Some, None, Ok, Err, Option, sym, refl, ap, ◌∙◌, subst, true≢false, arith}
+use Rattle.std.proofs.Common.{◌≡◌, ℕ, ◌<◌, ◌≤◌, true, false, cond, not, length, ℤ, Some, None, Ok, Err, Option, sym, refl, ap, ◌∙◌, subst, true≢false, arith}
 use Rattle.std.proofs.lemmas.List.{length-set, get_or-set_same}
-use Rattle.std.proofs.lemmas.Bool.{and_parts, le-leb, lt-leb, leb-true, not-false}
+use Rattle.std.proofs.lemmas.Bool.{and_parts, lt-leb, leb-true, not-false}
 use Rattle.segment.specs.Bases.{base_of}
 use Rattle.segment.specs.Bounds.{bounded}
 use Rattle.segment.specs.Updates.{linked}
@@ -13,20 +13,13 @@ use Rattle.rules.specs.declared.refusal.Refusal.{Refusal}
 use Rattle.rules.specs.declared.refusal.Refusal.TheVariants as no
 use Rattle.rules.specs.Books.{Books, unused, state_of}
 use Rattle.rules.specs.Links.{out_of_range, linked_at, linked_state}
-use Rattle.rules.specs.Starting.{has_base, row_size, row_segment, opened_at, opened_for, placed_refusal, row_refusal, recovered_by, recover_row}
-use Rattle.orders.specs.Within.{KeptWithin, is_lsn, is_bounded}
+use Rattle.rules.specs.Starting.{has_base, row_size, row_segment, opened_for, placed_refusal, row_refusal, recovered_by, recover_row}
+use Rattle.orders.specs.Within.{is_lsn, is_bounded}
 use Rattle.orders.proofs.Every.{every_index}
 use Rattle.orders.proofs.Replaces.{passed}
 use Rattle.orders.proofs.BoundStarts.{within_beginning}
 use Rattle.ledger.specs.Verdicts.{verdict}
 use Rattle.recovery.specs.Recoverable.{Recoverable}
-
--- a segment that is among those reached, or past them
-pub among : {n m len many : ℕ} → n ≡ m → len ≡ many → n < len → m < many
-among e f l = omega (arith, e, f, l)
-
-pub beyond : {n m len many : ℕ} → n ≡ m → len ≡ many → len ≤ n → many ≤ m
-beyond e f l = omega (arith, e, f, l)
 
 verdict_err : (o : Option Refusal) (e : Refusal) → Err e ≡ verdict o → o ≡ Some e
 verdict_err None e h = let z : ◌≡◌ {A = ℕ} 0 1 = cc in absurd (omega arith)
@@ -45,44 +38,31 @@ based_active base (is.Draining d) h = absurd (true≢false (sym h))
 active_bounded : (a : Active) → is_bounded (is.Active a) ≡ true → bounded (is.Active a) ≡ true
 active_bounded a h = (and_parts (is_lsn a.latest_replacement_lsn) _ (and_parts (is_lsn a.lsn) _ h).1).1
 
-module _ (header p : ℕ) (row : SnapshotRow) (b : Books) where
-  -- the books after the row
-  abbrev pub after : Books
-  after = linked_at (row_segment b row) p (row_size header row) (opened_for row b)
+-- n is the row's segment, which is reached, and mid the books with that segment open
+module _ (header p : ℕ) (row : SnapshotRow) (b mid : Books) (n : ℕ) (at : n ≡ row_segment b row) (low : n < length b.segments) (opens : mid ≡ opened_for row b) where
+  within_reach : row_refusal header p row b ≡ placed_refusal header p row mid
+  within_reach = ap (λ t. cond t (Some no.PastSegments) (placed_refusal header p row (opened_for row b))) (lt-leb _ _ (subst (λ m. m < length b.segments) at low)) ∙ ap (placed_refusal header p row) (sym opens)
 
-  pub row_past : length b.segments ≤ row_segment b row → Err no.PastSegments ≡ recover_row header p row b
-  row_past l = sym (ap (λ t. recovered_by (cond t (Some no.PastSegments) (placed_refusal header p row (opened_for row b))) after) (le-leb _ _ l))
+  pub row_refused : (e : Refusal) → Err e ≡ verdict (placed_refusal header p row mid) → Err e ≡ recover_row header p row b
+  row_refused e h = sym (ap (λ o. recovered_by o (linked_at (row_segment b row) p (row_size header row) (opened_for row b))) (within_reach ∙ verdict_err _ e h))
 
-  within_reach : row_segment b row < length b.segments → row_refusal header p row b ≡ placed_refusal header p row (opened_for row b)
-  within_reach l = ap (λ t. cond t (Some no.PastSegments) (placed_refusal header p row (opened_for row b))) (lt-leb _ _ l)
+  -- what is linked has room, and leaves what it found
+  module _ (size : ℕ) (sized : size ≡ row_size header row) (r : out_of_range row.lsn ≡ false) (passes : Ok tt ≡ verdict (placed_refusal header p row mid)) (k : Recoverable b) where
+    pub linked_kept : Recoverable (linked_at n p size mid)
+    linked_kept =
+        let kept = within_beginning.recovers header p row b r (within_reach ∙ verdict_ok _ passes) k.within in
+        subst Recoverable (λ i. linked_at (sym at i) p (sym sized i) (sym opens i)) (record { within = kept; ordering = k.ordering })
 
-  pub row_refused : row_segment b row < length b.segments → (e : Refusal) → Err e ≡ verdict (placed_refusal header p row (opened_for row b)) → Err e ≡ recover_row header p row b
-  row_refused l e h = sym (ap (λ o. recovered_by o after) (within_reach l ∙ verdict_err _ e h))
+    pub linked_room : length (linked_at n p size mid).pages ≤ 2048
+    linked_room = leb-true _ _ linked_kept.within.1.page_room
 
-  pub row_passes : row_segment b row < length b.segments → Ok tt ≡ verdict (placed_refusal header p row (opened_for row b)) → row_refusal header p row b ≡ None
-  row_passes l h = within_reach l ∙ verdict_ok _ h
-
-  pub row_done : row_refusal header p row b ≡ None → Ok after ≡ recover_row header p row b
-  row_done e = sym (ap (λ o. recovered_by o after) e)
-
-  pub row_reached : row_segment b row < length b.segments → row_segment b row < length (opened_for row b).segments
-  row_reached l = let e = length-set b.segments (row_segment b row) (opened_at (base_of b.size row.lsn) (state_of b (row_segment b row))) in omega arith
-
-  pub row_kept : out_of_range row.lsn ≡ false → row_refusal header p row b ≡ None → Recoverable b → Recoverable after
-  row_kept r e k = record { within = within_beginning.recovers header p row b r e k.within; ordering = k.ordering }
-
-  pub row_room : out_of_range row.lsn ≡ false → row_refusal header p row b ≡ None → KeptWithin b → length after.pages ≤ 2048
-  row_room r e k = leb-true _ _ (within_beginning.recovers header p row b r e k).1.page_room
-
-  -- the state that the link leaves
-  pub row_bytes : out_of_range row.lsn ≡ false → row_segment b row < length b.segments → row_refusal header p row b ≡ None → KeptWithin b → bounded (linked_state (row_size header row) (state_of (opened_for row b) (row_segment b row))) ≡ true
-  row_bytes r l e k =
-      let n : ℕ = row_segment b row in
-      let c : Books = opened_for row b in
-      let s : State = linked_state (row_size header row) (state_of c n) in
-      let based = passed (not (has_base (base_of b.size row.lsn) (state_of c n))) _ _ (sym (within_reach l) ∙ e) in
-      let x = based_active (base_of b.size row.lsn) (state_of c n) (not-false _ based.0) in
-      let t = every_index is_bounded after.segments n unused refl (within_beginning.recovers header p row b r e k).1.states in
-      let at : get_or after.segments n unused ≡ s = get_or-set_same c.segments n s unused (row_reached l) in
-      let is_active : s ≡ is.Active (linked (row_size header row) x.0) = ap (linked_state (row_size header row)) x.1 in
-      subst (λ y. bounded y ≡ true) (sym is_active) (active_bounded (linked (row_size header row) x.0) (subst (λ y. is_bounded y ≡ true) (at ∙ is_active) t))
+    pub linked_bytes : bounded (linked_state size (state_of mid n)) ≡ true
+    linked_bytes =
+        let here : n ≡ row_segment mid row = at ∙ ap (λ x. row_segment x row) (sym opens) in
+        let based = passed (not (has_base (base_of mid.size row.lsn) (state_of mid (row_segment mid row)))) _ _ (verdict_ok _ passes) in
+        let x = based_active (base_of mid.size row.lsn) (state_of mid (row_segment mid row)) (not-false _ based.0) in
+        let is_active : linked_state size (state_of mid n) ≡ is.Active (linked size x.0) = ap (linked_state size) (ap (state_of mid) here ∙ x.1) in
+        let as_many = ap (λ x. length x.segments) opens ∙ length-set b.segments (row_segment b row) _ in
+        let state = get_or-set_same mid.segments n (linked_state size (state_of mid n)) unused (omega arith) in
+        let t = every_index is_bounded (linked_at n p size mid).segments n unused refl linked_kept.within.1.states in
+        subst (λ y. bounded y ≡ true) (sym is_active) (active_bounded (linked size x.0) (subst (λ y. is_bounded y ≡ true) (state ∙ is_active) t))

@@ -2,6 +2,7 @@
 use Rattle.std.proofs.Common.{◌≡◌, ℕ, ◌<◌, List, ◌∷◌, length, is_some, Some, None, sym, ap, ◌∙◌, subst, arith}
 use Rattle.std.specs.List.{ContainsAt as Has}
 use Rattle.table.specs.Rows.{first_of, remove_row}
+use Rattle.table.proofs.Ends.{first_has as has_first}
 use Rattle.table.proofs.Filters.{has_from_kept}
 use Rattle.table.proofs.Laws.{has_find}
 use Rattle.host.specs.Meaning.{Answer}
@@ -18,7 +19,6 @@ use Rattle.orders.proofs.Every.{end_parts}
 use Rattle.orders.proofs.LookSteps.{number_at_is}
 use Rattle.orders.proofs.ShareSteps.{share_steps}
 use Rattle.orders.proofs.Stabilizes.{signed_laws}
-use Rattle.ledger.proofs.Queueing.{has_first}
 use Rattle.closing.proofs.Releasing.{first_split, first_none, released_rest}
 
 module _ (row : FreeableRow) (b : Books) (m : Has b.freeable row) (s : Shared b) where

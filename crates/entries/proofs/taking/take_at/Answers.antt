@@ -2,7 +2,6 @@
 use Rattle.std.proofs.Common.{◌≡◌, None, sym, subst, w64}
 use Rattle.std.proofs.lemmas.Int.{to_z-of_z}
 use Rattle.table.specs.Held.{held}
-use Rattle.rules.specs.Books.{books}
 use Rattle.rules.specs.Replacing.{from_state}
 use Rattle.ledger.specs.Ledgers.{books_of}
 use Rattle.ledger.specs.States.{states_of}
@@ -23,4 +22,4 @@ returns c =
     let was = c.take_out-segment.ensures.state in
     let segments = taken_states (states_of l.segments) _ _ c.args.n c.args.base _ c.args.size _ _ z was c.take_out-segment.ensures.states c.remove_pid-leaves.ensures.state c.write.ensures in
     let pages = taken_pages (held l.pages) _ c.args.n c.args.page c.args.base _ _ _ _ z was c.remove_pid-leaves.ensures.left c.mark_if.ensures in
-    λ i. books l.segment_size (segments i) l.tip l.max_stabilized_lsn (held l.free) (held l.ordering) (pages i) (held l.blobs) (held l.freeable) (held l.listed) (held l.faults)
+    cc

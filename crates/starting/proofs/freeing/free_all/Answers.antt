@@ -1,5 +1,5 @@
 -- One step of the walk, its early end and its end.
-use Rattle.std.proofs.Common.{◌<◌, ◌≤◌, length, Err, sym, refl, ap, ◌∙◌, subst}
+use Rattle.std.proofs.Common.{◌<◌, ◌≤◌, Err, refl, ap, ◌∙◌, subst}
 use Rattle.std.proofs.lemmas.Result.{err_from_is_err_and}
 use Rattle.ledger.specs.Ledgers.{books_of}
 use Rattle.upkeep.specs.Worlds.{seen}
@@ -9,12 +9,8 @@ use Rattle.starting.proofs.freeing.free_all.Goals as goal
 pub loop-n-init : goal.loop-n-init
 loop-n-init g c = (recovered_kept g.H.Host.respond (books_of c.args.world.now.ledger) c.requires, refl)
 
-pub free_state-requires : goal.free_state-requires
-free_state-requires g c =
-    let n = c.loop-n.n in
-    let h = c.loop-n.invariant.0 in
-    let low = subst (λ k. n < k) c.len-n-end.ensures c.loop-n-test.true in
-    record { reached = subst (λ l. n < length l) (sym h.1) low; kept = freed_kept g.H.Host.respond _ n (books_of c.loop-n.world.ledger) low h }
+pub free_state-requires-clause-kept : goal.free_state-requires-clause-kept
+free_state-requires-clause-kept g c = freed_kept g.H.Host.respond _ c.loop-n.n (books_of c.loop-n.world.ledger) (subst (λ k. c.loop-n.n < k) c.len-n-end.ensures c.loop-n-test.true) c.loop-n.invariant.0
 
 pub returns-in_err-free_state : goal.returns-in_err-free_state
 returns-in_err-free_state g c =

@@ -1,5 +1,5 @@
 -- One removal is one step of the fold.
-use Rattle.std.proofs.Common.{◌≡◌, get_or, pos, Ok, Err, sym, refl, ap, ◌∙◌, w64, SFits, rules}
+use Rattle.std.proofs.Common.{◌≡◌, get_or, pos, Ok, Err, sym, refl, ap, ◌∙◌, w64, rules}
 use Rattle.std.proofs.lemmas.Result.{err_from_is_err_and}
 use Rattle.std.proofs.lemmas.Int.{to_z-of_z}
 use Rattle.host.specs.Meaning.{asked_remove}
@@ -15,8 +15,7 @@ returns-in_err-remove g c =
     let m = g.H.Host.model c.loop-row.host in
     let t = g.H.Host.model c.remove.new.self in
     let row : BlobRow = get_or c.args.rows.now c.loop-row.row-index (blob_row 0 (pos 0)) in
-    let fits : SFits w64 row.blob = search rules in
-    let e : respond m (asked_remove row.blob) ≡ (Err c.in_err-remove.field-0.0, t) = ap (λ z. respond m (asked_remove z)) (sym (to_z-of_z w64 row.blob fits)) ∙ (sym c.remove.ensures ∙ ap (λ r. (r, t)) c.in_err-remove.was) in
+    let e : respond m (asked_remove row.blob) ≡ (Err c.in_err-remove.field-0.0, t) = ap (λ z. respond m (asked_remove z)) (sym (to_z-of_z w64 row.blob (search rules))) ∙ (sym c.remove.ensures ∙ ap (λ r. (r, t)) c.in_err-remove.was) in
     let p = err_from_is_err_and c.from_residual.result c.from_residual.ensures.1 in
     ap (λ r. (r, t)) (p.1 ∙ ap Err p.2)
     ∙ fold_stop (remove_blobs respond) (λ row m. respond m (asked_remove row.blob)) (removed_by respond) (λ s. refl) (λ x xs s. refl) (λ f s. refl) (λ f e s. refl) c.args.rows.now c.loop-row.row-index m _ c.loop-row.invariant (blob_row 0 (pos 0)) c.in_err-remove.field-0.0 t c.loop-row-test.true e
@@ -27,8 +26,7 @@ loop-row-preserved g c =
     let m = g.H.Host.model c.loop-row.host in
     let t = g.H.Host.model c.remove.new.self in
     let row : BlobRow = get_or c.args.rows.now c.loop-row.row-index (blob_row 0 (pos 0)) in
-    let fits : SFits w64 row.blob = search rules in
-    let e : respond m (asked_remove row.blob) ≡ (Ok tt, t) = ap (λ z. respond m (asked_remove z)) (sym (to_z-of_z w64 row.blob fits)) ∙ (sym c.remove.ensures ∙ ap (λ r. (r, t)) c.in_ok-remove.was) in
+    let e : respond m (asked_remove row.blob) ≡ (Ok tt, t) = ap (λ z. respond m (asked_remove z)) (sym (to_z-of_z w64 row.blob (search rules))) ∙ (sym c.remove.ensures ∙ ap (λ r. (r, t)) c.in_ok-remove.was) in
     fold_more (remove_blobs respond) (λ row m. respond m (asked_remove row.blob)) (removed_by respond) (λ s. refl) (λ x xs s. refl) (λ f s. refl) (λ f e s. refl) c.args.rows.now c.loop-row.row-index m _ c.loop-row.invariant (blob_row 0 (pos 0)) t c.loop-row-test.true e
 
 pub returns : goal.returns

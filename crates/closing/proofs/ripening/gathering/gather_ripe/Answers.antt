@@ -1,8 +1,7 @@
 -- The rows of the range are those above the old level and up to the new one; there are at most as many as the ordering has.
-use Rattle.std.proofs.Common.{◌≡◌, ℤ, pos, ◌+ℤ◌, ◌∙◌, arith, w64, SFits, to_z, of_z, rules}
+use Rattle.std.proofs.Common.{◌≡◌, ℤ, pos, ◌+ℤ◌, arith, w64, SFits, to_z, of_z, rules}
 use Rattle.std.proofs.lemmas.Int.{ints}
 use Rattle.table.specs.Held.{held}
-use Rattle.table.specs.Ranges.{between}
 use Rattle.segment.specs.Rows.{ordering_key}
 use Rattle.closing.proofs.LaterRange.{between_most, ripe_range}
 use Rattle.closing.proofs.ripening.gathering.gather_ripe.Goals as goal
@@ -22,4 +21,5 @@ returns c =
     let fits : SFits w64 old = search rules in
     let a : to_z w64 (of_z w64 (to_z w64 (of_z w64 old) +ℤ pos 1)) ≡ old +ℤ pos 1 = omega (arith, ints, c.requires.old) in
     let b : to_z w64 (of_z w64 (to_z w64 (of_z w64 new) +ℤ pos 1)) ≡ new +ℤ pos 1 = omega (arith, ints, c.requires.new, c.ranges.level) in
-    c.refill.ensures.items ∙ c.between.ensures ∙ (λ i. between ordering_key int_cmp (held l.ordering) (a i) (b i)) ∙ ripe_range old new (held l.ordering)
+    let r = ripe_range old new (held l.ordering) in
+    cc

@@ -1,5 +1,5 @@
--- The books after handing out keep what books keep, so there is room for one segment and one row more.
-use Rattle.std.proofs.Common.{◌≡◌, ◌+◌, ◌%◌, ◌<◌, ◌≤◌, false, not, ltb, length, nat_abs, is_some, Ok, sym, ap, ◌∙◌, subst, arith, w64}
+-- The books after handing out keep what books keep, so there is room for one row more.
+use Rattle.std.proofs.Common.{◌≡◌, ◌%◌, ◌≤◌, false, not, ltb, length, nat_abs, is_some, Ok, sym, ap, ◌∙◌, subst, w64}
 use Rattle.std.proofs.lemmas.Int.{to_z-of_z}
 use Rattle.std.proofs.lemmas.Bool.{eq-eqb, le-ltb}
 use Rattle.table.specs.Rows.{find}
@@ -7,12 +7,12 @@ use Rattle.segment.specs.Rows.{ordering_key}
 use Rattle.rules.specs.Books.{Books}
 use Rattle.rules.specs.HandingOut.{unaligned, in_use, offered, handed_out}
 use Rattle.ledger.specs.Ledgers.{books_of}
-use Rattle.ledger.proofs.Handing.{numbers, offered_same, handed_rooms}
+use Rattle.ledger.proofs.Handing.{handed_room}
 use Rattle.ledger.proofs.ledger.Ledger.next_at.Goals as goal
 use Rattle.std.specs.Ordering.{int_cmp}
 
-pub hand_out-requires : goal.hand_out-requires
-hand_out-requires c =
+pub hand_out-requires-clause-room : goal.hand_out-requires-clause-room
+hand_out-requires-clause-room c =
     let lsn = c.args.lsn in
     let z = to_z-of_z w64 lsn c.ranges.lsn in
     let b : Books = books_of c.args.self.now in
@@ -23,17 +23,4 @@ hand_out-requires c =
     let i : in_use b lsn ≡ false = ap (λ k. is_some (find ordering_key int_cmp b.ordering k)) (sym z) ∙ (ap is_some (sym c.get.ensures) ∙ (sym c.is_some.ensures ∙ c.if-is_some.false)) in
     let e : offered b b.free ≡ (Ok offset, d) = sym c.offered.ensures ∙ ap (λ r. (r, d)) c.in_ok-offset.was in
     let q : ltb (nat_abs lsn) offset ≡ false = le-ltb (nat_abs lsn) offset (subst (λ n. offset ≤ n) at c.if-at-offset.false) in
-    let r = handed_rooms lsn offset b d c.requires.lsn u i e q c.requires.kept in
-    let r1 = r.reached in
-    let r2 = r.ordering in
-    let same : d ≡ b = offered_same b d offset e in
-    let n = numbers b c.requires.kept.whole.counting.within.1 in
-    let n1 = n.positive in
-    let n2 = n.most in
-    let n3 = n.tip in
-    record {
-      size = subst (λ x. 0 < x.size) (sym same) n1;
-      fits = subst (λ x. x.tip + x.size < 18446744073709551616) (sym same) (omega arith);
-      reached = subst (λ x. length (handed_out x offset d).segments ≤ 256) (sym z) r1;
-      room = subst (λ x. length (handed_out x offset d).ordering ≤ 256) (sym z) (omega arith);
-    }
+    subst (λ x. length (handed_out x offset d).ordering ≤ 256) (sym z) (handed_room lsn offset b d c.requires.lsn u i e q c.requires.kept)

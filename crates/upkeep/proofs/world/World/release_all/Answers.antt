@@ -7,8 +7,8 @@ use Rattle.upkeep.specs.Worlds.{seen}
 use Rattle.upkeep.proofs.Releases.{first_has, release_keeps, release_step, release_fewer, release_end}
 use Rattle.upkeep.proofs.world.World.release_all.Goals as goal
 
-pub release-requires : goal.release-requires
-release-requires g c = record { there = first_has c.args.n (books_of c.loop-row.self.ledger).freeable c.in-Some.row (sym c.first_held_back.ensures ∙ c.in-Some.is); kept = c.loop-row.invariant.0 }
+pub release-requires-clause-there : goal.release-requires-clause-there
+release-requires-clause-there g c = first_has c.args.n (books_of c.loop-row.self.ledger).freeable c.in-Some.row (sym c.first_held_back.ensures ∙ c.in-Some.is)
 
 pub loop-row-smaller : goal.loop-row-smaller
 loop-row-smaller g c =
