@@ -22,11 +22,7 @@ impl Ledger {
         ensures { result ≡ lowest_fault (books_of self.now).faults }
     {
         let row = self.faults.first()?;
-        Some(HostFault::Cut {
-            offset: row.offset,
-            code: row.code,
-            layer: row.layer,
-        })
+        Some(HostFault::from(row))
     }
 
     // The state of segment n, if it is reached.

@@ -1,8 +1,10 @@
 // The rows that the books keep, each with its key.
+ghost use Rattle.std.specs.Prelude.{◌≡◌};
+ghost use Rattle.host.specs.declared.request.HostFault.TheVariants as fault;
 ghost use Rattle.segment.specs.Rows.{ordering_key, page_key, blob_key, freeable_key, fault_key};
 
 use crate::types::{Lsn, PageId, SegmentId};
-use host::{BlobPointer, LogOffset};
+use host::{BlobPointer, HostFault, LogOffset};
 use table::{Key, Row};
 
 // Where the log goes on from an LSN.
@@ -91,5 +93,18 @@ impl Row for FaultRow {
 
     fn key(&self) -> u64 {
         self.offset
+    }
+}
+
+// The fault that the host told of the cut.
+impl From<FaultRow> for HostFault {
+    ghost from_gives = { λ row f. f ≡ fault.Cut row.offset row.code row.layer };
+
+    fn from(row: FaultRow) -> HostFault {
+        HostFault::Cut {
+            offset: row.offset,
+            code: row.code,
+            layer: row.layer,
+        }
     }
 }
