@@ -21,5 +21,5 @@ tip_fits size count h l =
 
 -- ---- the answer of the checks
 pub planned_err : (o : Option Refusal) (count : ℕ) (e : Refusal) → Err e ≡ planned o count → o ≡ Some e
-planned_err None count e h = let z : ◌≡◌ {A = ℕ} 0 1 = cc in absurd (omega arith)
+planned_err None count e h = absurd (cc)
 planned_err (Some f) count e h = cc
