@@ -1,5 +1,5 @@
 -- What is known where a segment is handed out: the books after it keep what books keep, so there is room.
-use Rattle.std.proofs.Common.{◌≡◌, ℕ, ◌*◌, ◌/◌, ◌<◌, ◌≤◌, false, cond, ◌&&◌, eqb, ltb, leb, length, ℤ, nat_abs, Ok, Err, Result, ap, ◌∙◌, subst, mul-le-mul_right, arith}
+use Rattle.std.proofs.Common.{◌≡◌, ℕ, ◌≤◌, false, cond, ◌&&◌, eqb, ltb, leb, length, ℤ, nat_abs, Ok, Err, Result, ap, ◌∙◌, subst, arith}
 use lib.Count.{ones}
 use Rattle.std.proofs.lemmas.Bool.{and_parts, leb-true}
 use Rattle.rules.specs.declared.refusal.Refusal.{Refusal}
@@ -9,29 +9,19 @@ use Rattle.rules.specs.HandingOut.{unaligned, in_use, offered, handed_out, next_
 use Rattle.rules.specs.Links.{out_of_range}
 use Rattle.orders.specs.Share.{Shared}
 use Rattle.orders.specs.Within.{Within}
-use Rattle.orders.proofs.Bounds.{size_positive}
-use Rattle.orders.proofs.Every.{end_parts}
 use Rattle.orders.proofs.HandsOut.{next_keeps}
 use Rattle.orders.proofs.Rooms.{have_room}
 use Rattle.orders.proofs.ShareSteps.{share_steps}
 
 -- ---- the numbers of the books
 pub record Numbers (b : Books) : Type 0 where
-  pub positive : 0 < b.size
-  pub least : 256 ≤ b.size
   pub most : b.size ≤ 16777216
   pub reached : length b.segments ≤ 256
-  pub tip : b.tip ≤ 256 * b.size
 
 pub numbers : (b : Books) → Within b → Numbers b
 numbers b w =
     let s = and_parts (leb 256 b.size) (leb b.size 16777216 && eqb (ones b.size) 1) w.size in
-    let t = and_parts (leb b.size 16777216) (eqb (ones b.size) 1) s.1 in
-    let r = leb-true (length b.segments) 256 w.reached in
-    let e = end_parts b.size (length b.segments) b.tip w.tip in
-    let k : b.tip / b.size ≤ 256 = omega (arith, e.1) in
-    let m : b.tip / b.size * b.size ≤ 256 * b.size = mul-le-mul_right b.size k in
-    record { positive = size_positive b w; least = leb-true _ _ s.0; most = leb-true _ _ t.0; reached = r; tip = subst (λ x. x ≤ 256 * b.size) e.0 m }
+    record { most = leb-true _ _ (and_parts (leb b.size 16777216) (eqb (ones b.size) 1) s.1).0; reached = leb-true (length b.segments) 256 w.reached }
 
 -- ---- handing out
 handed_shared : (lsn : ℤ) (offset : ℕ) (b c : Books) → out_of_range lsn ≡ false → unaligned b.size lsn ≡ false → in_use b lsn ≡ false → offered b b.free ≡ (Ok offset, c) → ltb (nat_abs lsn) offset ≡ false → Shared b → Shared (handed_out lsn offset c)
