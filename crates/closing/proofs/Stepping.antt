@@ -1,6 +1,7 @@
 -- A walk that changes each row in its place: so many rows from the front are changed, and the others are as they were.
-use Rattle.std.proofs.Common.{◌≡◌, ℕ, zero, suc, ◌+◌, ◌-◌, ◌<◌, ◌≤◌, Bool, true, false, cond, not, ◌&&◌, List, [], ◌∷◌, ◌++◌, map, length, get_or, take, drop, set, Some, None, Ok, Err, filter, Option, Result, Ordering, sym, refl, ap, ◌∙◌, arith, MatchResult}
-use Rattle.std.proofs.lemmas.List.{get_or-take, get_or-drop, length-take-le, length-drop}
+use Rattle.std.proofs.Common.{◌≡◌, ℕ, ◌+◌, ◌-◌, ◌<◌, ◌≤◌, Bool, true, false, cond, not, ◌&&◌, List, [], ◌∷◌, ◌++◌, map, length, get_or, take, drop, set, Some, None, Ok, Err, filter, Option, Result, Ordering, sym, refl, ap, ◌∙◌, arith, MatchResult}
+use Rattle.std.proofs.lemmas.List.{get_or-take, get_or-drop, get_or_at, length-take-le, length-drop, length-map, map-append, drop_more, take-append-drop}
+use Rattle.std.proofs.lemmas.List.Edits.{map_over_more}
 use Rattle.std.proofs.lemmas.Bool.{and_parts, not-true}
 use Rattle.table.specs.Order.{Lawful}
 use Rattle.table.specs.Rows.{every, ascending, place, find, insert_row}
@@ -13,52 +14,17 @@ use Rattle.rules.specs.Pages.{is_in, queued_row, rows_of, rows_off}
 use Rattle.ledger.proofs.Walks.{every_parts}
 use Rattle.closing.specs.Queued.{queued_if}
 
-module _ {X : Type 0} (f : X → X) where
-  abbrev pub changed_to : ℕ → List X → List X
-  changed_to zero xs = xs
-  changed_to (suc i) [] = []
-  changed_to (suc i) (x ∷ xs) = f x ∷ changed_to i xs
+-- rows that f leaves alone, in front and behind
+module _ {X : Type 0} (f : X → X) (p : X → Bool) (same : (x : X) → p x ≡ true → f x ≡ x) where
+  unchanged : (xs : List X) → every p xs ≡ true → map f xs ≡ xs
+  unchanged [] e = refl
+  unchanged (x ∷ xs) e = let es = and_parts (p x) (every p xs) e in λ k. same x es.0 k ∷ unchanged xs es.1 k
 
-  pub changed_length : (i : ℕ) (xs : List X) → length (changed_to i xs) ≡ length xs
-  changed_length zero xs = refl
-  changed_length (suc i) [] = refl
-  changed_length (suc i) (x ∷ xs) = ap suc (changed_length i xs)
+  pub over_front : (i : ℕ) (xs : List X) → every p (take i xs) ≡ true → xs ≡ map f (take i xs) ++ drop i xs
+  over_front i xs e = sym (ap (λ l. l ++ drop i xs) (unchanged (take i xs) e) ∙ take-append-drop i xs)
 
-  pub changed_at : (i : ℕ) (xs : List X) (d : X) → get_or (changed_to i xs) i d ≡ get_or xs i d
-  changed_at zero xs d = refl
-  changed_at (suc i) [] d = refl
-  changed_at (suc i) (x ∷ xs) d = changed_at i xs d
-
-  changed_next : (i : ℕ) (xs : List X) (d : X) → i < length xs → set (changed_to i xs) i (f (get_or xs i d)) ≡ changed_to (suc i) xs
-  changed_next i [] d l = absurd (omega arith)
-  changed_next zero (x ∷ xs) d l = refl
-  changed_next (suc i) (x ∷ xs) d l = ap (λ z. f x ∷ z) (changed_next i xs d (omega arith))
-
-  pub changed_more : (i : ℕ) (xs : List X) (d : X) → i < length xs → set (changed_to i xs) i (f (get_or xs i d)) ≡ changed_to (i + 1) xs
-  changed_more i xs d l = let s : suc i ≡ i + 1 = omega arith in changed_next i xs d l ∙ ap (λ k. changed_to k xs) s
-
-  -- rows that f leaves alone, in front and behind
-  pub front_alone : (p : X → Bool) → ((x : X) → p x ≡ true → f x ≡ x) → (i : ℕ) (xs : List X) → every p (take i xs) ≡ true → changed_to i xs ≡ xs
-  front_alone p h zero xs e = refl
-  front_alone p h (suc i) [] e = refl
-  front_alone p h (suc i) (x ∷ xs) e =
-      let es = and_parts (p x) (every p (take i xs)) e in
-      let g = h x es.0 in
-      let r = front_alone p h i xs es.1 in
-      λ k. g k ∷ r k
-
-  all_alone : (p : X → Bool) → ((x : X) → p x ≡ true → f x ≡ x) → (xs : List X) → every p xs ≡ true → xs ≡ map f xs
-  all_alone p h [] e = refl
-  all_alone p h (x ∷ xs) e =
-      let es = and_parts (p x) (every p xs) e in
-      let g = h x es.0 in
-      let r = all_alone p h xs es.1 in
-      λ k. sym g k ∷ r k
-
-  pub behind_alone : (p : X → Bool) → ((x : X) → p x ≡ true → f x ≡ x) → (i : ℕ) (xs : List X) → every p (drop i xs) ≡ true → changed_to i xs ≡ map f xs
-  behind_alone p h zero xs e = all_alone p h xs e
-  behind_alone p h (suc i) [] e = refl
-  behind_alone p h (suc i) (x ∷ xs) e = ap (λ l. f x ∷ l) (behind_alone p h i xs e)
+  pub over_behind : (i : ℕ) (xs : List X) → every p (drop i xs) ≡ true → map f (take i xs) ++ drop i xs ≡ map f xs
+  over_behind i xs e = ap (λ l. map f (take i xs) ++ l) (sym (unchanged (drop i xs) e)) ∙ (sym (map-append f (take i xs) (drop i xs)) ∙ ap (map f) (take-append-drop i xs))
 
 -- what a test keeps passes it
 module _ {X : Type 0} (p : X → Bool) where
@@ -92,8 +58,14 @@ queued_in n row = cond (is_in n row && not row.left) (queued_row true row) row
 pub other_alone : (n : ℕ) (row : PageRow) → not (is_in n row) ≡ true → queued_in n row ≡ row
 other_alone n row e = ap (λ t. cond (t && not row.left) (queued_row true row) row) (not-true (is_in n row) e)
 
-pub own_queued : (n : ℕ) (row : PageRow) → is_in n row ≡ true → queued_if row ≡ queued_in n row
-own_queued n row e = ap (λ t. cond (t && not row.left) (queued_row true row) row) (sym e)
+-- the row at place i is of segment n, and is queued
+pub queued_more : (n i : ℕ) (rows ys after : List PageRow) (d : PageRow) → i < length rows → is_in n (get_or rows i d) ≡ true → ys ≡ map (queued_in n) (take i rows) ++ drop i rows → ((d : PageRow) → after ≡ set ys i (queued_if (get_or ys i d))) → after ≡ map (queued_in n) (take (i + 1) rows) ++ drop (i + 1) rows
+queued_more n i rows ys after d l own e put =
+    let x : PageRow = get_or rows i d in
+    let front : List PageRow = map (queued_in n) (take i rows) in
+    let long : length front ≡ i = length-map (take i rows) (queued_in n) ∙ length-take-le i rows (omega arith) in
+    let here : x ≡ get_or ys i x = sym (ap (λ z. get_or z i x) (e ∙ ap (λ z. front ++ z) (drop_more rows i d l)) ∙ get_or_at front _ _ x i long) in
+    put x ∙ (ap (set ys i) (ap queued_if (sym here) ∙ ap (λ t. cond (t && not x.left) (queued_row true x) x) (sym own)) ∙ map_over_more (queued_in n) rows ys i x l e here)
 
 -- the rows before the range of segment n, and those behind it, are of other segments
 pub outside_range : (n start end : ℕ) (slice pages : List PageRow) → slice ≡ pages → take start slice ++ drop end slice ≡ rows_off n slice → (every (λ row. not (is_in n row)) (take start pages) ≡ true) × (every (λ row. not (is_in n row)) (drop end pages) ≡ true)

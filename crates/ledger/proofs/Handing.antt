@@ -1,7 +1,11 @@
 -- What is known where a segment is handed out: the books after it keep what books keep, so there is room.
-use Rattle.std.proofs.Common.{◌≡◌, ℕ, ◌*◌, ◌/◌, ◌<◌, ◌≤◌, false, cond, ◌&&◌, eqb, ltb, leb, length, ℤ, nat_abs, Ok, Err, Result, ap, ◌∙◌, subst, mul-le-mul_right, arith}
+use Rattle.std.proofs.Common.{◌≡◌, ℕ, ◌≤◌, Bool, false, cond, ◌&&◌, eqb, ltb, leb, length, ℤ, nat_abs, is_some, not, ◌%◌, Ok, Err, Option, Result, sym, ap, ◌∙◌, subst, arith}
 use lib.Count.{ones}
-use Rattle.std.proofs.lemmas.Bool.{and_parts, leb-true}
+use Rattle.std.proofs.lemmas.Bool.{and_parts, leb-true, eq-eqb, le-ltb}
+use Rattle.std.specs.Ordering.{int_cmp}
+use Rattle.table.specs.Rows.{find}
+use Rattle.segment.specs.Rows.{ordering_key}
+use Rattle.segment.specs.declared.rows.OrderingRow.{OrderingRow}
 use Rattle.rules.specs.declared.refusal.Refusal.{Refusal}
 use Rattle.rules.specs.declared.refusal.Refusal.TheVariants as no
 use Rattle.rules.specs.Books.{Books}
@@ -9,29 +13,19 @@ use Rattle.rules.specs.HandingOut.{unaligned, in_use, offered, handed_out, next_
 use Rattle.rules.specs.Links.{out_of_range}
 use Rattle.orders.specs.Share.{Shared}
 use Rattle.orders.specs.Within.{Within}
-use Rattle.orders.proofs.Bounds.{size_positive}
-use Rattle.orders.proofs.Every.{end_parts}
 use Rattle.orders.proofs.HandsOut.{next_keeps}
 use Rattle.orders.proofs.Rooms.{have_room}
 use Rattle.orders.proofs.ShareSteps.{share_steps}
 
 -- ---- the numbers of the books
 pub record Numbers (b : Books) : Type 0 where
-  pub positive : 0 < b.size
-  pub least : 256 ≤ b.size
   pub most : b.size ≤ 16777216
   pub reached : length b.segments ≤ 256
-  pub tip : b.tip ≤ 256 * b.size
 
 pub numbers : (b : Books) → Within b → Numbers b
 numbers b w =
     let s = and_parts (leb 256 b.size) (leb b.size 16777216 && eqb (ones b.size) 1) w.size in
-    let t = and_parts (leb b.size 16777216) (eqb (ones b.size) 1) s.1 in
-    let r = leb-true (length b.segments) 256 w.reached in
-    let e = end_parts b.size (length b.segments) b.tip w.tip in
-    let k : b.tip / b.size ≤ 256 = omega (arith, e.1) in
-    let m : b.tip / b.size * b.size ≤ 256 * b.size = mul-le-mul_right b.size k in
-    record { positive = size_positive b w; least = leb-true _ _ s.0; most = leb-true _ _ t.0; reached = r; tip = subst (λ x. x ≤ 256 * b.size) e.0 m }
+    record { most = leb-true _ _ (and_parts (leb b.size 16777216) (eqb (ones b.size) 1) s.1).0; reached = leb-true (length b.segments) 256 w.reached }
 
 -- ---- handing out
 handed_shared : (lsn : ℤ) (offset : ℕ) (b c : Books) → out_of_range lsn ≡ false → unaligned b.size lsn ≡ false → in_use b lsn ≡ false → offered b b.free ≡ (Ok offset, c) → ltb (nat_abs lsn) offset ≡ false → Shared b → Shared (handed_out lsn offset c)
@@ -43,10 +37,13 @@ handed_shared lsn offset b c r u i e q h = subst Shared (ap (λ x. x.1) is) (nex
         ∙ (ap (λ t. cond {A = Result ℕ Refusal × Books} t (Err no.LsnInUse, b) (next_by lsn (offered b b.free))) i
         ∙ (ap (next_by lsn) e ∙ ap (λ t. cond {A = Result ℕ Refusal × Books} t (Err no.BelowOffset, c) (Ok offset, handed_out lsn offset c)) q))
 
--- there is room for the row of the segment that is handed out
-pub handed_room : (lsn : ℤ) (offset : ℕ) (b c : Books) → out_of_range lsn ≡ false → unaligned b.size lsn ≡ false → in_use b lsn ≡ false → offered b b.free ≡ (Ok offset, c) → ltb (nat_abs lsn) offset ≡ false → Shared b → length (handed_out lsn offset c).ordering ≤ 256
-handed_room lsn offset b c r u i e q h =
-    let k = have_room _ (handed_shared lsn offset b c r u i e q h).whole in
+-- there is room for the segment and its row, by what the call found: z is the LSN, and at its position
+pub handed_room : (lsn z : ℤ) (at offset : ℕ) (b c : Books) (o : Option OrderingRow) (t : Bool) (r : Result ℕ Refusal) → z ≡ lsn → at ≡ nat_abs z → out_of_range lsn ≡ false → at % b.size ≡ 0 → o ≡ find ordering_key int_cmp b.ordering z → t ≡ is_some o → t ≡ false → (r, c) ≡ offered b b.free → r ≡ Ok offset → offset ≤ at → Shared b → (length (handed_out z offset c).segments ≤ 256) × (length (handed_out z offset c).ordering ≤ 256)
+handed_room lsn z at offset b c o t r ez ea range aligned eo et free er was low h =
+    let u : unaligned b.size z ≡ false = ap not (eq-eqb (nat_abs z % b.size) 0 (ap (λ n. n % b.size) (sym ea) ∙ aligned)) in
+    let i : in_use b z ≡ false = ap is_some (sym eo) ∙ (sym et ∙ free) in
+    let q : ltb (nat_abs z) offset ≡ false = le-ltb (nat_abs z) offset (subst (λ n. offset ≤ n) ea low) in
+    let k = have_room _ (handed_shared z offset b c (ap out_of_range ez ∙ range) u i (sym er ∙ ap (λ r. (r, c)) was) q h).whole in
     let k1 = k.ordering in
     let k2 = k.reached in
-    omega arith
+    (k2, omega arith)

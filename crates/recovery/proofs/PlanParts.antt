@@ -1,5 +1,5 @@
 -- What a plan keeps that the checks let pass.
-use Rattle.std.proofs.Common.{◌≡◌, ℕ, ◌*◌, ◌^◌, ◌<◌, ◌≤◌, true, eqb, leb, Some, None, Err, Option, sym, subst, mul-le-mul, arith}
+use Rattle.std.proofs.Common.{◌≡◌, ℕ, ◌*◌, ◌^◌, ◌<◌, ◌≤◌, true, eqb, leb, Some, None, Ok, Err, Option, sym, refl, subst, mul-le-mul, arith}
 use lib.Count.{ones}
 use Rattle.std.proofs.lemmas.Bool.{and_parts, leb-true}
 use Rattle.rules.specs.declared.refusal.Refusal.{Refusal}
@@ -21,5 +21,9 @@ tip_fits size count h l =
 
 -- ---- the answer of the checks
 pub planned_err : (o : Option Refusal) (count : ℕ) (e : Refusal) → Err e ≡ planned o count → o ≡ Some e
-planned_err None count e h = let z : ◌≡◌ {A = ℕ} 0 1 = cc in absurd (omega arith)
+planned_err None count e h = absurd (cc)
 planned_err (Some f) count e h = cc
+
+pub planned_ok : (o : Option Refusal) (count n : ℕ) → Ok n ≡ planned o count → (o ≡ None) × (n ≡ count)
+planned_ok None count n h = (refl, cc)
+planned_ok (Some f) count n h = absurd (cc)

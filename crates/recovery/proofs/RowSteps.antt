@@ -22,12 +22,12 @@ use Rattle.ledger.specs.Verdicts.{verdict}
 use Rattle.recovery.specs.Recoverable.{Recoverable}
 
 verdict_err : (o : Option Refusal) (e : Refusal) → Err e ≡ verdict o → o ≡ Some e
-verdict_err None e h = let z : ◌≡◌ {A = ℕ} 0 1 = cc in absurd (omega arith)
+verdict_err None e h = absurd (cc)
 verdict_err (Some f) e h = cc
 
 verdict_ok : (o : Option Refusal) → Ok tt ≡ verdict o → o ≡ None
 verdict_ok None h = refl
-verdict_ok (Some f) h = let z : ◌≡◌ {A = ℕ} 0 1 = cc in absurd (omega arith)
+verdict_ok (Some f) h = absurd (cc)
 
 based_active : (base : ℤ) (s : State) → has_base base s ≡ true → (a : Active) × (s ≡ is.Active a)
 based_active base (is.Free f) h = absurd (true≢false (sym h))

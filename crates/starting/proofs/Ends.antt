@@ -10,7 +10,15 @@ use Rattle.orders.specs.Share.{Shared}
 use Rattle.orders.proofs.Starts.{started_keeps}
 use Rattle.orders.proofs.ShareSteps.{share_beginning}
 use Rattle.recovery.specs.Begun.{recovered_if}
-use Rattle.starting.specs.Starts.{books_kept, ended}
+use Rattle.starting.specs.Starts.{Recovered, books_kept, ended}
+
+-- what the checks let pass is recovered
+pub passed_recovered : (s : Plan) (slot extent : ℕ) (b : Books) → Ok b ≡ recovered_if (plan_refusal s slot extent) s extent → Recovered b
+passed_recovered s slot extent b e = on (plan_refusal s slot extent) refl e
+  where
+    on : (o : Option Refusal) → plan_refusal s slot extent ≡ o → Ok b ≡ recovered_if o s extent → Recovered b
+    on None f h = (s, slot, extent, f, sym h)
+    on (Some r) f h = absurd (cc)
 
 if_kept : (r : Result (Unit {0}) Refusal) (b : Books) → IfAny Shared (books_kept r b) → IfOk r (λ _. Shared b)
 if_kept (Ok u) b h = h

@@ -43,9 +43,6 @@ module _ {M : Type 0} (respond : M → Request → Answer × M) (n : ℕ) (w : W
   release_keeps row m s = freed_keeps respond share_steps (number_of_lsn w.books row.lsn) _ (share_steps.releases row w.books m s)
 
   module _ (row : FreeableRow) (e : first_of (held_back_by n w.books.freeable) ≡ Some row) (s : Shared w.books) where
-    rest : List FreeableRow
-    rest = (first_split (held_back_by n w.books.freeable) row e).0
-
     split : held_back_by n w.books.freeable ≡ row ∷ (first_split (held_back_by n w.books.freeable) row e).0
     split = (first_split (held_back_by n w.books.freeable) row e).1
 

@@ -1,5 +1,5 @@
 -- One removal is one step of the fold.
-use Rattle.std.proofs.Common.{◌≡◌, get_or, pos, Ok, Err, sym, refl, ap, ◌∙◌, w64, rules}
+use Rattle.std.proofs.Common.{get_or, pos, Err, refl, ap, ◌∙◌, w64, rules}
 use Rattle.std.proofs.lemmas.Result.{err_from_is_err_and}
 use Rattle.std.proofs.lemmas.Int.{to_z-of_z}
 use Rattle.host.specs.Meaning.{asked_remove}
@@ -11,25 +11,15 @@ use Rattle.upkeep.proofs.stabilizing.remove_blobs.Goals as goal
 
 pub returns-in_err-remove : goal.returns-in_err-remove
 returns-in_err-remove g c =
-    let respond = g.H.Host.respond in
-    let m = g.H.Host.model c.loop-row.host in
-    let t = g.H.Host.model c.remove.new.self in
     let row : BlobRow = get_or c.args.rows.now c.loop-row.row-index (blob_row 0 (pos 0)) in
-    let e : respond m (asked_remove row.blob) ≡ (Err c.in_err-remove.field-0.0, t) = ap (λ z. respond m (asked_remove z)) (sym (to_z-of_z w64 row.blob (search rules))) ∙ (sym c.remove.ensures ∙ ap (λ r. (r, t)) c.in_err-remove.was) in
     let p = err_from_is_err_and c.from_residual.result c.from_residual.ensures.1 in
-    ap (λ r. (r, t)) (p.1 ∙ ap Err p.2)
-    ∙ fold_stop (remove_blobs respond) (λ row m. respond m (asked_remove row.blob)) (removed_by respond) (λ s. refl) (λ x xs s. refl) (λ f s. refl) (λ f e s. refl) c.args.rows.now c.loop-row.row-index m _ c.loop-row.invariant (blob_row 0 (pos 0)) c.in_err-remove.field-0.0 t c.loop-row-test.true e
+    ap (λ r. (r, g.H.Host.model c.remove.new.self)) (p.1 ∙ ap Err p.2)
+    ∙ fold_stop (λ row. row.blob) (λ z m. g.H.Host.respond m (asked_remove z)) (remove_blobs g.H.Host.respond) (removed_by g.H.Host.respond) (λ s. refl) (λ x xs s. refl) (λ f s. refl) (λ f e s. refl) c.args.rows.now c.loop-row.row-index (g.H.Host.model c.loop-row.host) _ c.loop-row.invariant (blob_row 0 (pos 0)) _ _ _ c.loop-row-test.true (to_z-of_z w64 row.blob (search rules)) c.remove.ensures c.in_err-remove.field-0.0 c.in_err-remove.was
 
 pub loop-row-preserved : goal.loop-row-preserved
 loop-row-preserved g c =
-    let respond = g.H.Host.respond in
-    let m = g.H.Host.model c.loop-row.host in
-    let t = g.H.Host.model c.remove.new.self in
     let row : BlobRow = get_or c.args.rows.now c.loop-row.row-index (blob_row 0 (pos 0)) in
-    let e : respond m (asked_remove row.blob) ≡ (Ok tt, t) = ap (λ z. respond m (asked_remove z)) (sym (to_z-of_z w64 row.blob (search rules))) ∙ (sym c.remove.ensures ∙ ap (λ r. (r, t)) c.in_ok-remove.was) in
-    fold_more (remove_blobs respond) (λ row m. respond m (asked_remove row.blob)) (removed_by respond) (λ s. refl) (λ x xs s. refl) (λ f s. refl) (λ f e s. refl) c.args.rows.now c.loop-row.row-index m _ c.loop-row.invariant (blob_row 0 (pos 0)) t c.loop-row-test.true e
+    fold_more (λ row. row.blob) (λ z m. g.H.Host.respond m (asked_remove z)) (remove_blobs g.H.Host.respond) (removed_by g.H.Host.respond) (λ s. refl) (λ x xs s. refl) (λ f s. refl) (λ f e s. refl) c.args.rows.now c.loop-row.row-index (g.H.Host.model c.loop-row.host) _ c.loop-row.invariant (blob_row 0 (pos 0)) _ _ _ c.loop-row-test.true (to_z-of_z w64 row.blob (search rules)) c.remove.ensures c.in_ok-remove.was
 
 pub returns : goal.returns
-returns g c =
-    let respond = g.H.Host.respond in
-    fold_end (remove_blobs respond) (λ row m. respond m (asked_remove row.blob)) (removed_by respond) (λ s. refl) (λ x xs s. refl) (λ f s. refl) (λ f e s. refl) c.args.rows.now c.loop-row.row-index (g.H.Host.model c.loop-row.host) _ c.loop-row.invariant c.loop-row-test.false
+returns g c = fold_end (λ row. row.blob) (λ z m. g.H.Host.respond m (asked_remove z)) (remove_blobs g.H.Host.respond) (removed_by g.H.Host.respond) (λ s. refl) (λ x xs s. refl) (λ f s. refl) (λ f e s. refl) c.args.rows.now c.loop-row.row-index (g.H.Host.model c.loop-row.host) _ c.loop-row.invariant c.loop-row-test.false

@@ -3,8 +3,11 @@ use Rattle.std.proofs.Common.{Some, ap}
 use Rattle.orders.proofs.HandsOut.{popped_keeps}
 use Rattle.orders.proofs.ShareSteps.{share_steps}
 use Rattle.ledger.specs.Ledgers.{books_of}
-use Rattle.accountant.proofs.Keeping.{still_kept}
+use Rattle.accountant.proofs.Keeping.{taken_out, still_kept}
 use Rattle.accountant.proofs.accountant.SegmentAccountant.do_pop.Goals as goal
+
+pub pop_page-requires : goal.pop_page-requires
+pop_page-requires g c = (taken_out _ (books_of c.args.self.now.world.ledger) c.if-not-self.false c.args.self.now.kept).whole.counting.within
 
 pub invariant_of-self : goal.invariant_of-self
 invariant_of-self g c =

@@ -1,5 +1,5 @@
 -- One deactivation is one step of the fold, and keeps what the books keep.
-use Rattle.std.proofs.Common.{◌≡◌, get_or, pos, Ok, Err, sym, refl, ap, ◌∙◌, subst, w64, rules}
+use Rattle.std.proofs.Common.{get_or, pos, Err, sym, refl, ap, ◌∙◌, subst, w64, rules, to_z, of_z}
 use Rattle.std.proofs.lemmas.Result.{err_from_is_err_and}
 use Rattle.std.proofs.lemmas.Int.{to_z-of_z}
 use Rattle.segment.specs.declared.rows.OrderingRow.{OrderingRow}
@@ -14,35 +14,22 @@ use Rattle.upkeep.proofs.world.World.deactivate_all.Goals as goal
 no_row : OrderingRow
 no_row = record { lsn = pos 0; offset = 0 }
 
-pub deactivate-requires : goal.deactivate-requires
-deactivate-requires g c = c.loop-row.invariant.0
-
 pub returns-in_err-deactivate : goal.returns-in_err-deactivate
 unfolding deactivate_all no_row
 returns-in_err-deactivate g c =
-    let respond = g.H.Host.respond in
-    let w = seen g.H.Host.model c.loop-row.self in
-    let t = seen g.H.Host.model c.deactivate.new.self in
     let row : OrderingRow = get_or c.args.rows.now c.loop-row.row-index no_row in
-    let e : deactivated respond row.lsn w ≡ (Err c.in_err-deactivate.field-0.0, t) = ap (λ z. deactivated respond z w) (sym (to_z-of_z w64 row.lsn (search rules))) ∙ (sym c.deactivate.ensures ∙ ap (λ r. (r, t)) c.in_err-deactivate.was) in
     let p = err_from_is_err_and c.from_residual.result c.from_residual.ensures.1 in
-    ap (λ r. (r, t)) (p.1 ∙ ap Err p.2)
-    ∙ fold_stop (deactivate_all respond) (λ row w. deactivated respond row.lsn w) (then_deactivated respond) (λ s. refl) (λ x xs s. refl) (λ f s. refl) (λ f e s. refl) c.args.rows.now c.loop-row.row-index w _ c.loop-row.invariant.1 no_row c.in_err-deactivate.field-0.0 t c.loop-row-test.true e
+    ap (λ r. (r, seen g.H.Host.model c.deactivate.new.self)) (p.1 ∙ ap Err p.2)
+    ∙ fold_stop (λ row. row.lsn) (deactivated g.H.Host.respond) (deactivate_all g.H.Host.respond) (then_deactivated g.H.Host.respond) (λ s. refl) (λ x xs s. refl) (λ f s. refl) (λ f e s. refl) c.args.rows.now c.loop-row.row-index (seen g.H.Host.model c.loop-row.self) _ c.loop-row.invariant.1 no_row _ _ _ c.loop-row-test.true (to_z-of_z w64 row.lsn (search rules)) c.deactivate.ensures c.in_err-deactivate.field-0.0 c.in_err-deactivate.was
 
 pub loop-row-preserved : goal.loop-row-preserved
 unfolding deactivate_all no_row
 loop-row-preserved g c =
-    let respond = g.H.Host.respond in
-    let w = seen g.H.Host.model c.loop-row.self in
-    let t = seen g.H.Host.model c.deactivate.new.self in
-    let row : OrderingRow = get_or c.args.rows.now c.loop-row.row-index no_row in
-    let e : deactivated respond row.lsn w ≡ (Ok tt, t) = ap (λ z. deactivated respond z w) (sym (to_z-of_z w64 row.lsn (search rules))) ∙ (sym c.deactivate.ensures ∙ ap (λ r. (r, t)) c.in_ok-deactivate.was) in (
-      subst (λ o. Shared o.1.books) e (deactivated_keeps respond share_steps row.lsn w c.loop-row.invariant.0),
-      fold_more (deactivate_all respond) (λ row w. deactivated respond row.lsn w) (then_deactivated respond) (λ s. refl) (λ x xs s. refl) (λ f s. refl) (λ f e s. refl) c.args.rows.now c.loop-row.row-index w _ c.loop-row.invariant.1 no_row t c.loop-row-test.true e,
+    let row : OrderingRow = get_or c.args.rows.now c.loop-row.row-index no_row in (
+      subst (λ o. Shared o.1.books) (sym c.deactivate.ensures) (deactivated_keeps g.H.Host.respond share_steps (to_z w64 (of_z w64 row.lsn)) (seen g.H.Host.model c.loop-row.self) c.loop-row.invariant.0),
+      fold_more (λ row. row.lsn) (deactivated g.H.Host.respond) (deactivate_all g.H.Host.respond) (then_deactivated g.H.Host.respond) (λ s. refl) (λ x xs s. refl) (λ f s. refl) (λ f e s. refl) c.args.rows.now c.loop-row.row-index (seen g.H.Host.model c.loop-row.self) _ c.loop-row.invariant.1 no_row _ _ _ c.loop-row-test.true (to_z-of_z w64 row.lsn (search rules)) c.deactivate.ensures c.in_ok-deactivate.was,
     )
 
 pub returns : goal.returns
 unfolding deactivate_all
-returns g c =
-    let respond = g.H.Host.respond in
-    fold_end (deactivate_all respond) (λ row w. deactivated respond row.lsn w) (then_deactivated respond) (λ s. refl) (λ x xs s. refl) (λ f s. refl) (λ f e s. refl) c.args.rows.now c.loop-row.row-index (seen g.H.Host.model c.loop-row.self) _ c.loop-row.invariant.1 c.loop-row-test.false
+returns g c = fold_end (λ row. row.lsn) (deactivated g.H.Host.respond) (deactivate_all g.H.Host.respond) (then_deactivated g.H.Host.respond) (λ s. refl) (λ x xs s. refl) (λ f s. refl) (λ f e s. refl) c.args.rows.now c.loop-row.row-index (seen g.H.Host.model c.loop-row.self) _ c.loop-row.invariant.1 c.loop-row-test.false
