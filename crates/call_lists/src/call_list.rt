@@ -38,7 +38,7 @@ impl CallList {
         self.line
     }
 
-    // The next statement; none at the end of the list.
+    // The next statement; none at the end of the list. The count is the form of a loop that waits on input.
     pub fn next_statement(&mut self) -> Result<Option<Statement>, Stop> {
         for _ in 0..u64::MAX {
             self.bytes.clear();

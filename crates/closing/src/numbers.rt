@@ -6,13 +6,13 @@ ghost use Rattle.ledger.specs.Ledgers.{books_of};
 use ledger::Ledger;
 use segment::{Lsn, SegmentId};
 
-// The segment that the ordering has under this LSN, or 0.
+// The segment that the ordering has under this LSN, or 0, as the rules have it.
 pub fn number_of_lsn(ledger: &Ledger, lsn: Lsn) -> SegmentId
     requires { 0 < ledger.now.segment_size }
     ensures { result ≡ number_of_lsn (books_of ledger.now) lsn }
 {
-    match ledger.ordering.get(lsn) {
-        Some(row) => row.offset / ledger.segment_size,
-        None => 0,
-    }
+    ledger
+        .ordering
+        .get(lsn)
+        .map_or(0, |row| ledger.segment_id(row.offset))
 }

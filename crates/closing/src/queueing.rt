@@ -36,7 +36,8 @@ fn queue_at(pages: &mut Table<PageRow, MAX_PAGE_ROWS>, i: usize)
     }
 }
 
-// The pages of segment n that have not left are queued. By place: after a walk over `&mut` rows a proof knows no row.
+// The pages of segment n that have not left are queued. By place: a table lends no rows to write, since a
+// write could break their order.
 pub fn queue_all(pages: &mut Table<PageRow, MAX_PAGE_ROWS>, n: SegmentId)
     ensures { held pages.new ≡ all_queued n (held pages.old) }
 {

@@ -7,14 +7,10 @@ ghost use Rattle.rules.specs.Links.{out_of_range, into_active, into_closed, into
 ghost use Rattle.ledger.specs.Ledgers.{books_of};
 ghost use Rattle.ledger.specs.Verdicts.{verdict};
 
-use ledger::{Ledger, MAX_PAGE_ROWS};
+use ledger::{Ledger, MAX_LINKED, MAX_PAGE_ROWS, MAX_SIZE};
 use rules::Refusal;
 use segment::{Active, CacheInfo, Lsn, PageId, PageRow, SegmentId, State, base};
 use table::Table;
-
-pub const MAX_SIZE: u64 = 4_294_967_295;
-
-const MAX_LINKED: u64 = 1_099_511_627_776;
 
 // Why an entry with this base may not go into an Active segment.
 fn check_active(

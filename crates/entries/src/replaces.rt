@@ -12,13 +12,13 @@ ghost use Rattle.ledger.specs.Ledgers.{books_of};
 ghost use Rattle.ledger.specs.Verdicts.{verdict};
 ghost use Rattle.entries.specs.Sums.{pairs};
 
-use crate::links::{MAX_SIZE, check_link};
+use crate::links::check_link;
 use crate::olds::check_olds;
 use crate::replacement::Replacement;
 use crate::scratch::Scratch;
 use crate::spare::SpareBlobs;
 use crate::sums::Sums;
-use ledger::Ledger;
+use ledger::{Ledger, MAX_SIZE};
 use rules::Refusal;
 use segment::{CacheInfo, base};
 

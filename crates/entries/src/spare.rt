@@ -28,29 +28,11 @@ impl SpareBlobs {
         Ok(SpareBlobs { rows })
     }
 
-    fn clear(&mut self)
-        ensures { held self.new.rows ≡ [] }
-    {
-        self.rows.clear();
-    }
-
     fn put(&mut self, row: BlobRow)
         requires { length (held self.old.rows) < 512 }
         ensures { held self.new.rows ≡ insert_row blob_key by_signed (held self.old.rows) row }
     {
         put(&mut self.rows, row);
-    }
-
-    // The same rows as those.
-    fn copy(&mut self, rows: &[BlobRow])
-        requires order { ascending blob_key by_signed rows.now ≡ true }
-        requires room { length rows.now ≤ 512 }
-        ensures { held self.new.rows ≡ rows.now }
-    {
-        self.clear();
-        for row in rows {
-            self.put(*row);
-        }
     }
 
     // The blob of an old entry is given up, unless it is the one kept.
@@ -87,7 +69,7 @@ impl SpareBlobs {
         requires few { length olds.now ≤ 256 }
         ensures { held self.new.rows ≡ given_up n keep olds.now (held blobs.now) }
     {
-        self.copy(blobs.rows());
+        self.rows.copy_from(blobs);
         self.give_up(n, keep, olds);
     }
 

@@ -55,10 +55,7 @@ impl Sums {
     fn size_in(&self, n: SegmentId) -> u64
         ensures { result ≡ size_in (find sum_key nat_cmp (held self.now.rows) n) }
     {
-        match self.rows.get(n) {
-            Some(row) => row.size,
-            None => 0,
-        }
+        self.rows.get(n).map_or(0, |row| row.size)
     }
 
     // An old entry of this size lies in segment n.

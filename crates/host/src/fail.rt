@@ -8,6 +8,7 @@ use crate::host::Host;
 use crate::request::{HostFault, Request};
 use crate::take::TakeRequest;
 
+// The layer's own code. A fault has its host's number, which its callers are told.
 const REFUSED: u16 = 9;
 
 /// Passes a number of requests on to the host below, refuses the one after, and passes all later ones.

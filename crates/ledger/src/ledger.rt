@@ -10,6 +10,11 @@ pub const MAX_PAGE_ROWS: usize = 2048;
 // As many as there may be, and as many as one replacement may give up.
 pub const MAX_BLOB_ROWS: usize = 512;
 
+// The bytes of an entry, and those linked into a segment.
+pub const MAX_SIZE: u64 = 4_294_967_295;
+
+pub const MAX_LINKED: u64 = 1_099_511_627_776;
+
 #[derive(Drop)]
 pub struct Ledger {
     // 0 before a start: what divides by it asks that it is not.

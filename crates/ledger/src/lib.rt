@@ -11,7 +11,7 @@ mod making;
 mod room;
 mod segments;
 
-pub use ledger::{Ledger, MAX_BLOB_ROWS, MAX_PAGE_ROWS, MAX_SEGMENTS};
+pub use ledger::{Ledger, MAX_BLOB_ROWS, MAX_LINKED, MAX_PAGE_ROWS, MAX_SEGMENTS, MAX_SIZE};
 pub use lsns::out_of_range;
 pub use room::put;
 pub use segments::Segments;

@@ -10,6 +10,7 @@ ghost use Rattle.recovery.specs.Plans.{sized};
 use ledger::{Ledger, Segments};
 use segment::{Free, Segment, State};
 
+// A turn for each; nothing is read by its number.
 fn fill_unused(segments: &mut Segments, count: u64)
     requires { count ≤ 256 }
     ensures { states_of segments.new ≡ replicate count unused }

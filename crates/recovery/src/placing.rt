@@ -7,7 +7,7 @@ ghost use Rattle.ledger.specs.Ledgers.{books_of};
 ghost use Rattle.ledger.specs.Verdicts.{verdict};
 ghost use Rattle.recovery.specs.Placing.{state_refusal, opened_refusal};
 
-use ledger::Ledger;
+use ledger::{Ledger, MAX_LINKED, MAX_PAGE_ROWS, MAX_SIZE};
 use rules::Refusal;
 use segment::{Lsn, PageId, RowKind, SegmentId, SnapshotRow, State, base};
 
@@ -45,10 +45,10 @@ fn check_state(state: &State, base: Lsn, size: u64) -> Result<(), Refusal>
     if !has_base(state, base) {
         return Err(Refusal::RowBase);
     }
-    if size > 4_294_967_295 {
+    if size > MAX_SIZE {
         return Err(Refusal::TooLarge);
     }
-    if bytes_in(state) + size > 1_099_511_627_776 {
+    if bytes_in(state) + size > MAX_LINKED {
         return Err(Refusal::TooLarge);
     }
     Ok(())
@@ -58,7 +58,7 @@ fn check_state(state: &State, base: Lsn, size: u64) -> Result<(), Refusal>
 fn page_rows_full(ledger: &Ledger, n: SegmentId, page: PageId) -> bool
     ensures { result ≡ page_rows_full (books_of ledger.now) n page }
 {
-    ledger.pages.get((n, page)).is_none() && ledger.pages.len() >= 2048
+    ledger.pages.get((n, page)).is_none() && ledger.pages.len() >= MAX_PAGE_ROWS
 }
 
 // What the segment of a row, being open for it, refuses the row for.

@@ -45,7 +45,7 @@ fn forms_page(directory: &[PageEntry], rows: &[SnapshotRow], page: usize) -> boo
     page_rows(directory, rows, page).is_some_and(|part| page_state(part).is_some())
 }
 
-// Whether the rows of every page form one.
+// Whether the rows of every page form one. By number, as the reader of pages takes it.
 pub fn forms_pages(directory: &[PageEntry], rows: &[SnapshotRow]) -> bool
     requires { covers 0 directory.now (length rows.now) ≡ true }
     ensures { result ≡ every (forms_page rows.now) directory.now }

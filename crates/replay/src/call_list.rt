@@ -1,4 +1,4 @@
-// A call list on standard input, read statement by statement.
+// A call list on standard input, read statement by statement. Beside that of call_lists, since a line that is not UTF-8 ends this one.
 use crate::statement::{Statement, read_statement};
 use call_lists::Stop;
 use std::io::{BufRead, BufReader, Stdin};
@@ -22,7 +22,7 @@ impl CallList {
         self.line
     }
 
-    // The next statement; none at the end of the list.
+    // The next statement; none at the end of the list. The count is the form of a loop that waits on input.
     pub(crate) fn next_statement(&mut self, rt: &HostRuntime) -> Result<Option<Statement>, Stop> {
         for _ in 0..u64::MAX {
             let mut text = String::new(rt.alloc());

@@ -16,6 +16,7 @@ use std::alloc::{AllocError, Global};
 
 const PLACES: usize = 64;
 
+// The host's own code, which its callers are told.
 const FULL: u16 = 2;
 
 // Writes the request at the end, or refuses it if there is no place.
