@@ -22,7 +22,22 @@ pub fn search<R: Row>(rows: &[R], key: R::Key) -> Result<usize, usize>
     ensures cut_ascends { ascending R.Row.keyed R.Key.Key.rank (remove_row R.Row.keyed R.Key.Key.rank rows.now key) ≡ true }
     ensures put_ascends { (row : R) → R.Row.keyed row ≡ key → ascending R.Row.keyed R.Key.Key.rank (insert_row R.Row.keyed R.Key.Key.rank rows.now row) ≡ true }
 {
-    rows.binary_search_by(|row| row.key().compare(key))
+    // By a loop of its own: no library search stops at the key.
+    let mut low = 0;
+    let mut high = rows.len();
+    while low < high {
+        let mid = low + (high - low) / 2;
+        let order = rows[mid].key().compare(key);
+        if order.is_eq() {
+            return Ok(mid);
+        }
+        if order.is_lt() {
+            low = mid + 1;
+        } else {
+            high = mid;
+        }
+    }
+    Err(low)
 }
 
 // Writes over the row at i.
