@@ -60,7 +60,7 @@ fn shift_in<T: Copy>(part: &mut [T], row: T)
 }
 
 // Moves the rows from i on up by one place, and puts the row at i.
-fn open_at<T: Copy>(rows: &mut [T], len: usize, i: usize, row: T)
+pub(crate) fn open_at<T: Copy>(rows: &mut [T], len: usize, i: usize, row: T)
     requires { (i ≤ len) × (len < length rows.old) }
     ensures rows { rows.new ≡ laid (insert (take len rows.old) i row) rows.old }
     ensures front { take (len + 1) rows.new ≡ insert (take len rows.old) i row }

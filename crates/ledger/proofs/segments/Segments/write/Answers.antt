@@ -2,5 +2,5 @@
 use Rattle.std.proofs.lemmas.List.{map-set}
 use Rattle.ledger.proofs.segments.Segments.write.Goals as goal
 
-pub returns : goal.returns
-returns c = simp map-set
+pub returns-clause-states : goal.returns-clause-states
+returns-clause-states c = simp map-set
