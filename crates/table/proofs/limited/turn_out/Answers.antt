@@ -2,7 +2,7 @@
 use Rattle.std.proofs.Common.{◌≡◌, ◌++◌, length, take, drop, refl, ◌∙◌, arith}
 use Rattle.std.proofs.lemmas.List.{take_all}
 use Rattle.table.proofs.Slides.{turned_front}
-use Rattle.table.proofs.owner.turn_out.Goals as goal
+use Rattle.table.proofs.limited.turn_out.Goals as goal
 
 pub returns : goal.returns
 returns g c =

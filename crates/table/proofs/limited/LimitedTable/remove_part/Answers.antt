@@ -2,7 +2,7 @@
 use Rattle.std.proofs.Common.{◌≡◌, ◌++◌, take, drop, arith}
 use Rattle.std.proofs.lemmas.Grind.{common_steps}
 use Rattle.table.proofs.Filters.{ascending_outside}
-use Rattle.table.proofs.owner.Table.remove_part.Goals as goal
+use Rattle.table.proofs.limited.LimitedTable.remove_part.Goals as goal
 
 pub invariant_of-self-clause-up : goal.invariant_of-self-clause-up
 invariant_of-self-clause-up g c =
