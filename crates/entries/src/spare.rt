@@ -11,7 +11,7 @@ ghost use Rattle.rules.specs.Replacing.{given_up, with_blob};
 ghost use Rattle.rules.specs.declared.refusal.Refusal.TheVariants as no;
 ghost use Rattle.ledger.specs.Verdicts.{verdict};
 
-use ledger::{MAX_BLOB_ROWS, put};
+use ledger::{MAX_BLOB_ROWS, are_floored, put};
 use rules::Refusal;
 use segment::{BlobPointer, BlobRow, CacheInfo, SegmentId};
 use std::alloc::{AllocError, Global};
@@ -22,15 +22,6 @@ pub struct SpareBlobs {
     pub rows: Table<BlobRow, MAX_BLOB_ROWS>,
     // Blob pointers are signed numbers of 64 bits.
     ghost floor: { floored blob_key int_cmp (held rows) least_signed ≡ true },
-}
-
-// None of these rows' blobs lies below the least signed number.
-fn are_floored(rows: &[BlobRow])
-    ensures { floored blob_key int_cmp rows.now least_signed ≡ true }
-{
-    for row in rows {
-        let _blob = row.blob;
-    }
 }
 
 impl SpareBlobs {

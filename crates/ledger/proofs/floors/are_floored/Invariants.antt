@@ -3,7 +3,7 @@ use Rattle.std.proofs.Common.{◌≡◌, true, take}
 use Rattle.std.specs.Ordering.{int_cmp}
 use Rattle.table.specs.Ranges.{floored, least_signed}
 use Rattle.segment.specs.Rows.{blob_key}
-use Rattle.entries.proofs.spare.are_floored.Given as goal
+use Rattle.ledger.proofs.floors.are_floored.Given as goal
 
 abbrev pub invariant-loop-row : goal.invariant-loop-row
 invariant-loop-row l = floored blob_key int_cmp (take l.row-index l.rows) least_signed ≡ true
