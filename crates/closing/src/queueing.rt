@@ -4,7 +4,6 @@ ghost use Rattle.table.specs.Held.{held};
 ghost use Rattle.rules.specs.Pages.{all_queued};
 ghost use Rattle.closing.specs.Queued.{queued_if};
 
-use ledger::MAX_PAGE_ROWS;
 use ranges::first_part_bounds;
 use segment::{PageRow, SegmentId};
 use table::{Key, Row, Table};
@@ -19,7 +18,7 @@ fn write_at<R: Row, const LIMIT: usize>(table: &mut Table<R, LIMIT>, i: usize, r
 }
 
 // The page at place i is queued, unless it has left.
-fn queue_at(pages: &mut Table<PageRow, MAX_PAGE_ROWS>, i: usize)
+fn queue_at<const LIMIT: usize>(pages: &mut Table<PageRow, LIMIT>, i: usize)
     requires { i < length (held pages.old) }
     ensures { (d : PageRow) → held pages.new ≡ slice_set (held pages.old) i (queued_if (slice_index_or (held pages.old) i d)) }
 {
@@ -38,7 +37,7 @@ fn queue_at(pages: &mut Table<PageRow, MAX_PAGE_ROWS>, i: usize)
 
 // The pages of segment n that have not left are queued. By place: a table lends no rows to write, since a
 // write could break their order.
-pub fn queue_all(pages: &mut Table<PageRow, MAX_PAGE_ROWS>, n: SegmentId)
+pub fn queue_all<const LIMIT: usize>(pages: &mut Table<PageRow, LIMIT>, n: SegmentId)
     ensures { held pages.new ≡ all_queued n (held pages.old) }
 {
     let (start, end) = first_part_bounds(pages.rows(), n);

@@ -1,7 +1,9 @@
 // Blob rows as they would be after a replacement.
 ghost use Rattle.std.specs.Prelude.{◌≡◌, ◌+◌, ◌<◌, ◌≤◌, true, [], ◌∷◌, length, IfOk, nat_lt};
 ghost use Rattle.table.specs.Held.{held};
-ghost use Rattle.table.specs.Rows.{ascending, insert_row};
+ghost use Rattle.std.specs.Ordering.{int_cmp};
+ghost use Rattle.table.specs.Ranges.{floored, least_signed};
+ghost use Rattle.table.specs.Rows.{insert_row};
 ghost use Rattle.segment.specs.Pointers.{blob_of};
 ghost use Rattle.segment.specs.Rows.{blob_key, by_signed};
 ghost use Rattle.rules.specs.Links.{first_refusal};
@@ -9,7 +11,7 @@ ghost use Rattle.rules.specs.Replacing.{given_up, with_blob};
 ghost use Rattle.rules.specs.declared.refusal.Refusal.TheVariants as no;
 ghost use Rattle.ledger.specs.Verdicts.{verdict};
 
-use ledger::{MAX_BLOB_ROWS, put};
+use ledger::{MAX_BLOB_ROWS, are_floored, put};
 use rules::Refusal;
 use segment::{BlobPointer, BlobRow, CacheInfo, SegmentId};
 use std::alloc::{AllocError, Global};
@@ -18,6 +20,8 @@ use table::Table;
 #[derive(Drop)]
 pub struct SpareBlobs {
     pub rows: Table<BlobRow, MAX_BLOB_ROWS>,
+    // Blob pointers are signed numbers of 64 bits.
+    ghost floor: { floored blob_key int_cmp (held rows) least_signed ≡ true },
 }
 
 impl SpareBlobs {
@@ -58,9 +62,9 @@ impl SpareBlobs {
     }
 
     // The blob rows as they would be after the replacement of the old entries.
-    pub fn fill(
+    pub fn fill<const LIMIT: usize>(
         &mut self,
-        blobs: &Table<BlobRow, MAX_BLOB_ROWS>,
+        blobs: &Table<BlobRow, LIMIT>,
         n: SegmentId,
         keep: Option<BlobPointer>,
         olds: &[CacheInfo],
@@ -69,7 +73,8 @@ impl SpareBlobs {
         requires few { length olds.now ≤ 256 }
         ensures { held self.new.rows ≡ given_up n keep olds.now (held blobs.now) }
     {
-        self.rows.copy_from(blobs);
+        are_floored(blobs.rows());
+        self.rows.copy_rows(blobs.rows());
         self.give_up(n, keep, olds);
     }
 

@@ -31,21 +31,21 @@ pub trait Host {
         ensures { (result, model self.new) ≡ respond (model self.old) request };
 
     /// Asks to cut the file off at the offset.
-    final fn cut(&mut self, offset: LogOffset) -> Result<(), HostFault>
+    fn cut(&mut self, offset: LogOffset) -> Result<(), HostFault>
         ensures { (result, model self.new) ≡ respond (model self.old) (asked_cut offset) }
     {
         self.ask(Request::Cut(offset))
     }
 
     /// Asks to zero one segment at the offset.
-    final fn fill(&mut self, offset: LogOffset) -> Result<(), HostFault>
+    fn fill(&mut self, offset: LogOffset) -> Result<(), HostFault>
         ensures { (result, model self.new) ≡ respond (model self.old) (asked_fill offset) }
     {
         self.ask(Request::Fill(offset))
     }
 
     /// Asks to take the blob out.
-    final fn remove(&mut self, blob: BlobPointer) -> Result<(), HostFault>
+    fn remove(&mut self, blob: BlobPointer) -> Result<(), HostFault>
         ensures { (result, model self.new) ≡ respond (model self.old) (asked_remove blob) }
     {
         self.ask(Request::Remove(blob))

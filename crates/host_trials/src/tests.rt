@@ -122,3 +122,22 @@ fn the_first_blobs_are_held(rt: HostRuntime) -> Result<(), Fail> {
     assert!(rt; host.held_blobs() == [Blob(-9), Blob(8)].as_slice());
     Ok(())
 }
+
+// The three requests, of a host whose type is not known here.
+fn asked_of(host: &mut dyn Host) -> [Result<(), HostFault>; 3] {
+    [host.cut(64), host.fill(512), host.remove(5)]
+}
+
+#[test]
+fn a_host_behind_a_reference_is_asked(rt: HostRuntime) -> Result<(), Fail> {
+    let memory = MemoryHost::new(rt.alloc(), 512, 100, &[5])?;
+    let mut host = FailLayer::new(1, memory);
+    let refused = HostFault::Fill {
+        offset: 512,
+        code: 9,
+        layer: 0,
+    };
+    assert_eq!(rt; asked_of(&mut host), [Ok(()), Err(refused), Ok(())]);
+    assert_eq!(rt; (host.length(), host.held_blobs().len()), (64, 0));
+    Ok(())
+}

@@ -1,4 +1,10 @@
 // The books: the state of each segment reached, and the tables.
+ghost use Rattle.std.specs.Prelude.{◌≡◌, true};
+ghost use Rattle.std.specs.Ordering.{int_cmp};
+ghost use Rattle.table.specs.Held.{held};
+ghost use Rattle.table.specs.Ranges.{floored, least_signed};
+ghost use Rattle.segment.specs.Rows.{blob_key};
+
 use crate::segments::Segments;
 use segment::{BlobRow, FaultRow, FreeableRow, LogOffset, Lsn, OrderingRow, PageRow};
 use table::Table;
@@ -33,4 +39,6 @@ pub struct Ledger {
     pub listed: Table<LogOffset, MAX_SEGMENTS>,
     // Cuts that the host refused.
     pub faults: Table<FaultRow, MAX_SEGMENTS>,
+    // Blob pointers are signed numbers of 64 bits.
+    ghost blobs_floor: { floored blob_key int_cmp (held blobs) least_signed ≡ true },
 }

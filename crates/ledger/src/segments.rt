@@ -14,7 +14,7 @@ pub struct Segments {
 }
 
 impl Segments {
-    ghost use Rattle.ledger.specs.States.{states, states_of};
+    ghost use Rattle.ledger.specs.States.{states, states_of, capacity_of};
 
     // None is reached yet.
     pub fn new(heap: Global) -> Result<Segments, AllocError>
@@ -56,6 +56,7 @@ impl Segments {
         requires { n < length (states_of self.old) }
         ensures state { result.state ≡ slice_index_or (states_of self.old) n unused }
         ensures states { states_of self.new ≡ slice_set (states_of self.old) n unused }
+        ensures cap { capacity_of self.new ≡ capacity_of self.old }
     {
         mem::replace(
             &mut self.list[n as usize],
@@ -68,7 +69,8 @@ impl Segments {
     // Writes segment n.
     pub fn write(&mut self, n: SegmentId, segment: Segment)
         requires { n < length (states_of self.old) }
-        ensures { states_of self.new ≡ slice_set (states_of self.old) n segment.state }
+        ensures states { states_of self.new ≡ slice_set (states_of self.old) n segment.state }
+        ensures cap { capacity_of self.new ≡ capacity_of self.old }
     {
         self.list[n as usize] = segment;
     }
@@ -76,14 +78,16 @@ impl Segments {
     // One segment more is reached.
     pub fn push(&mut self, segment: Segment)
         requires { length (states_of self.old) < 256 }
-        ensures { states_of self.new ≡ states_of self.old ++ segment.state ∷ [] }
+        ensures states { states_of self.new ≡ states_of self.old ++ segment.state ∷ [] }
+        ensures cap { capacity_of self.new ≡ capacity_of self.old }
     {
         self.list.push_reserved(segment);
     }
 
     // No segment is reached any more.
     pub fn clear(&mut self)
-        ensures { states_of self.new ≡ [] }
+        ensures states { states_of self.new ≡ [] }
+        ensures cap { capacity_of self.new ≡ capacity_of self.old }
     {
         self.list.clear();
     }

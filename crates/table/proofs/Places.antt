@@ -1,8 +1,8 @@
 -- Where a search ends. Assumes nothing.
-use Rattle.std.proofs.Common.{◌≡◌, ℕ, zero, suc, ◌+◌, ◌<◌, ◌≤◌, true, List, [], ◌∷◌, length, get_or, Ok, Err, Result, Ordering, Less, Equal, Greater, sym, refl, arith}
-use Rattle.std.specs.List.Sorted.{IsBinarySearchResult, IsNonDecreasingBy, IsSearchInRange}
-use Rattle.std.specs.Ordering.{is_lt, ordering_index}
+use Rattle.std.proofs.Common.{◌≡◌, ℕ, zero, suc, ◌+◌, ◌<◌, ◌≤◌, true, List, [], ◌∷◌, length, get_or, Ok, Err, Ordering, Less, Equal, Greater, refl, arith}
+use Rattle.std.specs.Ordering.{is_lt}
 use Rattle.std.proofs.lemmas.Bool.{and_parts}
+use Rattle.std.proofs.lemmas.List.{get_or_read}
 use Rattle.table.specs.Order.{Lawful}
 use Rattle.table.specs.Rows.{every, place, towards, ascending}
 use Rattle.table.proofs.Orders.{less_from, every_at, less_equal}
@@ -41,28 +41,12 @@ module _ {X K : Type 0} (key : X → K) {rank : K → K → Ordering} (laws : La
       first zero l u = u 0 x (omega arith)
       first (suc i) l u = laws.trans (key x) (key (get_or xs i x)) k (head_less x xs i x up (omega arith)) (u (suc i) x (omega arith))
 
-  rank_rises : (x y : X) (k : K) (o : Ordering) → rank (key x) (key y) ≡ Less → rank (key y) k ≡ o → ordering_index (rank (key x) k) ≤ ordering_index o
-  rank_rises x y k Less l e = rw (laws.trans (key x) (key y) k l e) (omega arith)
-  rank_rises x y k Equal l e = rw (less_equal laws (key x) (key y) k l e) (omega arith)
-  rank_rises x y k Greater l e = most (rank (key x) k)
-    where
-      most : (o : Ordering) → ordering_index o ≤ 2
-      most Less = omega arith
-      most Equal = omega arith
-      most Greater = omega arith
+  -- one step of the halving
+  pub under_next : (rows : List X) (k : K) (m : ℕ) (x : X) → m < length rows → x ≡ get_or rows m x → rank (key x) k ≡ Less → Under (towards key rank k) rows (m + 1)
+  under_next rows k m x l r e j d p =
+      let q : j ≡ m = omega arith in
+      let s : x ≡ get_or rows m d = get_or_read rows m x l r d in
+      rw (q, ← s) e
 
-  -- towards a key, rows that ascend stand below it first and above it last
-  rises : (rows : List X) (k : K) → ascending key rank rows ≡ true → IsNonDecreasingBy (λ x. ordering_index (towards key rank k x)) rows
-  rises [] k up i j d le l = absurd (omega (arith, l))
-  rises (x ∷ xs) k up zero zero d le l = omega arith
-  rises (x ∷ xs) k up zero (suc j) d le l = rank_rises x (get_or xs j d) k _ (head_less x xs j d up (omega (arith, l))) refl
-  rises (x ∷ xs) k up (suc i) zero d le l = absurd (omega (arith, le))
-  rises (x ∷ xs) k up (suc i) (suc j) d le l = rises xs k (tail_up x xs up) i j d (omega (arith, le)) (omega (arith, l))
-
-  -- a search by halves ends at the key's place
-  pub searched : (rows : List X) (k : K) (r : Result ℕ ℕ) → ascending key rank rows ≡ true → IsSearchInRange r (length rows) → IsBinarySearchResult (towards key rank k) rows r → r ≡ place key rank rows k
-  searched [] k (Ok i) up b h = absurd (omega (arith, b))
-  searched (x ∷ xs) k (Ok i) up b h = sym (place_at (x ∷ xs) k i x up b (h x))
-  searched rows k (Err i) up b h =
-      let parted = h (rises rows k up) in
-      sym (place_between rows k i up b (λ m d e. parted.0 m d (omega arith) (omega (arith, e))) (λ d l. parted.1 i d (omega arith) l))
+  pub over_here : (rows : List X) (k : K) (m : ℕ) (x : X) → m < length rows → x ≡ get_or rows m x → rank (key x) k ≡ Greater → Over (towards key rank k) rows m
+  over_here rows k m x l r e d p = let s : x ≡ get_or rows m d = get_or_read rows m x l r d in rw (← s) e

@@ -53,6 +53,25 @@ module _ {X : Type 0} where
       let n : length left ≡ len - 1 = ap length (sym e) ∙ simp (length-append, length-take, length-drop) (omega arith) in
       ap (take (len - 1)) f ∙ take_at left more (len - 1) n
 
+  -- the places start to end of the first len, moved behind the others of those
+  pub turned_front : (rows : List X) (start end len : ℕ) (part new : List X) → start ≤ end → end ≤ len → len ≤ length rows → part ≡ take (len - start) (drop start rows) → new ≡ drop (end - start) part ++ take (end - start) part → take (len - (end - start)) (put_mid start (len - start) rows new) ≡ take start (take len rows) ++ drop end (take len rows)
+  turned_front rows start end len part new se el lr p n =
+      let q : part ≡ drop start (take len rows) = p ∙ between_is rows start len in
+      let m : start + (end - start) ≡ end = omega arith in
+      let lp : length part ≡ len - start = ap length p ∙ simp (length-take, length-drop) (omega arith) in
+      let ln : length new ≡ len - start = ap length n ∙ simp (length-append, length-take, length-drop) (omega arith) in
+      let rest : drop (end - start) part ≡ drop end (take len rows) = ap (drop (end - start)) q ∙ drop-drop (end - start) start (take len rows) ∙ ap (λ k. drop k (take len rows)) m in
+      let kept = take start (take len rows) ++ drop end (take len rows) in
+      let long : length kept ≡ len - (end - start) = simp (length-append, length-take, length-drop) (omega arith) in
+      let whole : take len (put_mid start (len - start) rows new) ≡ kept ++ take (end - start) part =
+      take-put_mid start (len - start) rows new len (omega arith) (omega arith)
+      ∙ ap (λ l. take start rows ++ l) (n ∙ ap (λ l. l ++ take (end - start) part) rest)
+      ∙ ap (λ l. l ++ (drop end (take len rows) ++ take (end - start) part)) (sym (take-take start len rows (omega arith)))
+      ∙ sym (append_assoc (take start (take len rows)) (drop end (take len rows)) (take (end - start) part)) in
+      sym (take-take (len - (end - start)) len (put_mid start (len - start) rows new) (omega arith))
+      ∙ ap (take (len - (end - start))) whole
+      ∙ take_at kept (take (end - start) part) (len - (end - start)) long
+
   -- a place of one of the first rows, written over
   pub written : (rows : List X) (i len : ℕ) (row : X) → i < len → len ≤ length rows → (take len (set rows i row) ≡ set (take len rows) i row) × (drop len (set rows i row) ≡ drop len rows)
   written rows i len row il lr = (take-set-lt len rows i row il, drop-set-lt len rows i row il)

@@ -43,8 +43,7 @@ impl<A: Key, B: Key> Key for (A, B) {
     ghost lawful = { lexical_lawful A.Key.lawful B.Key.lawful };
 
     fn compare(self, other: (A, B)) -> Ordering {
-        self.0
-            .compare(other.0)
-            .then_with(|| self.1.compare(other.1))
+        // No `then_with`: to choose between two answers is quicker than to branch.
+        self.0.compare(other.0).then(self.1.compare(other.1))
     }
 }

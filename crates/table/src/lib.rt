@@ -2,11 +2,13 @@
 #![tactic(auto)]
 
 mod key;
+mod limited;
 mod owner;
 mod row;
 mod slices;
 
 pub use key::Key;
+pub use limited::LimitedTable;
 pub use owner::{Full, Table};
 pub use row::Row;
 pub use slices::{insert_in, remove_in, search};

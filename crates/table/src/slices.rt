@@ -22,7 +22,22 @@ pub fn search<R: Row>(rows: &[R], key: R::Key) -> Result<usize, usize>
     ensures cut_ascends { ascending R.Row.keyed R.Key.Key.rank (remove_row R.Row.keyed R.Key.Key.rank rows.now key) ≡ true }
     ensures put_ascends { (row : R) → R.Row.keyed row ≡ key → ascending R.Row.keyed R.Key.Key.rank (insert_row R.Row.keyed R.Key.Key.rank rows.now row) ≡ true }
 {
-    rows.binary_search_by(|row| row.key().compare(key))
+    // By a loop of its own: no library search stops at the key.
+    let mut low = 0;
+    let mut high = rows.len();
+    while low < high {
+        let mid = low + (high - low) / 2;
+        let order = rows[mid].key().compare(key);
+        if order.is_eq() {
+            return Ok(mid);
+        }
+        if order.is_lt() {
+            low = mid + 1;
+        } else {
+            high = mid;
+        }
+    }
+    Err(low)
 }
 
 // Writes over the row at i.
@@ -45,7 +60,7 @@ fn shift_in<T: Copy>(part: &mut [T], row: T)
 }
 
 // Moves the rows from i on up by one place, and puts the row at i.
-fn open_at<T: Copy>(rows: &mut [T], len: usize, i: usize, row: T)
+pub(crate) fn open_at<T: Copy>(rows: &mut [T], len: usize, i: usize, row: T)
     requires { (i ≤ len) × (len < length rows.old) }
     ensures rows { rows.new ≡ laid (insert (take len rows.old) i row) rows.old }
     ensures front { take (len + 1) rows.new ≡ insert (take len rows.old) i row }

@@ -12,6 +12,6 @@ shut-requires c = let m = kept_most (λ row. row.left) (rows_of c.args.n (held c
 
 pub returns : goal.returns
 returns c a e =
-    let segments = rewritten (states_of c.args.ledger.now.segments) _ _ c.args.n _ _ c.take_out-segment.ensures.states c.write.ensures in
+    let segments = rewritten (states_of c.args.ledger.now.segments) _ _ c.args.n _ _ c.take_out-segment.ensures.states c.write.ensures.states in
     let state = c.shut.ensures a (c.take_out-segment.ensures.state ∙ e) in
     cc

@@ -6,7 +6,7 @@ use Rattle.closing.proofs.Stepping.{over_front, over_behind, queued_in, other_al
 use Rattle.closing.proofs.queueing.queue_all.Goals as goal
 
 pub loop-i-init : goal.loop-i-init
-loop-i-init c =
+loop-i-init g c =
     let n = c.args.n in
     let rows = held c.args.pages.now in
     let start = c.first_part_bounds-start.result.0 in
@@ -14,7 +14,7 @@ loop-i-init c =
     over_front (queued_in n) (λ row. not (is_in n row)) (other_alone n) start rows out.0
 
 pub loop-i-preserved : goal.loop-i-preserved
-loop-i-preserved c =
+loop-i-preserved g c =
     let n = c.args.n in
     let i = c.loop-i.i in
     let rows = held c.args.pages.now in
@@ -24,7 +24,7 @@ loop-i-preserved c =
     queued_more n i rows _ _ (new_row 0 0) there mine c.loop-i.invariant c.queue_at.ensures
 
 pub returns : goal.returns
-returns c =
+returns g c =
     let n = c.args.n in
     let rows = held c.args.pages.now in
     let out = outside_range n c.first_part_bounds-start.result.0 c.first_part_bounds-start.result.1 c.rows.result.now rows c.rows.ensures c.first_part_bounds-start.ensures.rest in

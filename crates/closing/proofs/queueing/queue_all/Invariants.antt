@@ -5,4 +5,4 @@ use Rattle.closing.proofs.Stepping.{queued_in}
 use Rattle.closing.proofs.queueing.queue_all.Given as goal
 
 abbrev pub invariant-loop-i : goal.invariant-loop-i
-invariant-loop-i l = held l.pages ≡ map (queued_in l.n) (take l.i (held l.initial.pages)) ++ drop l.i (held l.initial.pages)
+invariant-loop-i g l = held l.pages ≡ map (queued_in l.n) (take l.i (held l.initial.pages)) ++ drop l.i (held l.initial.pages)

@@ -20,6 +20,6 @@ returns c =
     let l = c.args.ledger.now in
     let z = to_z-of_z w64 c.args.base c.ranges.base in
     let was = c.take_out-segment.ensures.state in
-    let segments = taken_states (states_of l.segments) _ _ c.args.n c.args.base _ c.args.size _ _ z was c.take_out-segment.ensures.states c.remove_pid-leaves.ensures.state c.write.ensures in
+    let segments = taken_states (states_of l.segments) _ _ c.args.n c.args.base _ c.args.size _ _ z was c.take_out-segment.ensures.states c.remove_pid-leaves.ensures.state c.write.ensures.states in
     let pages = taken_pages (held l.pages) _ c.args.n c.args.page c.args.base _ _ _ _ z was c.remove_pid-leaves.ensures.left c.mark_if.ensures in
     cc

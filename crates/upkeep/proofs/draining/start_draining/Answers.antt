@@ -25,6 +25,6 @@ put-requires c =
 pub returns : goal.returns
 returns c i e =
     let l = c.args.ledger.now in
-    let segments = rewritten (states_of l.segments) _ _ c.args.n _ _ c.take_out.ensures.states c.write.ensures in
+    let segments = rewritten (states_of l.segments) _ _ c.args.n _ _ c.take_out.ensures.states c.write.ensures.states in
     let state = c.drain_segment-segment.ensures i (c.take_out.ensures.state ∙ e) in
     λ j. books l.segment_size ((segments ∙ ap (set (states_of l.segments) c.args.n) state) j) l.tip l.max_stabilized_lsn (held l.free) (held l.ordering) (c.queue_all.ensures j) (held l.blobs) (held l.freeable) (c.put.ensures j) (held l.faults)

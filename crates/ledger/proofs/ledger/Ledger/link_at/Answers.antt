@@ -5,5 +5,5 @@ use Rattle.ledger.proofs.ledger.Ledger.link_at.Goals as goal
 
 pub returns : goal.returns
 returns c =
-    let segments = rewritten (states_of c.args.self.now.segments) _ _ c.args.n _ _ c.take_out.ensures.states c.write.ensures in
+    let segments = rewritten (states_of c.args.self.now.segments) _ _ c.args.n _ _ c.take_out.ensures.states c.write.ensures.states in
     cc
