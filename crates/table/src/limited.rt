@@ -2,7 +2,7 @@
 ghost use Rattle.std.specs.Prelude.{◌≡◌, ◌-◌, ◌≤◌, true, vec_capacity, [], ◌++◌, length, take, drop, IfOk, None, MatchResult};
 ghost use Rattle.table.specs.Rows.{ascending};
 
-use crate::slices::{open_at, remove_in, search};
+use crate::slices::{put_at, remove_in, search};
 use crate::{Full, Key, Row};
 use std::alloc::{AllocError, Global};
 
@@ -86,18 +86,13 @@ impl<R: Row> LimitedTable<R> {
         ensures after { (result, held_limited self.new) ≡ entered R.Row.keyed R.Key.Key.rank (limit_of self.old) (held_limited self.old) row }
         ensures cases { MatchResult result (λ _. held_limited self.new ≡ insert_row R.Row.keyed R.Key.Key.rank (held_limited self.old) row) (λ _. (held_limited self.new ≡ held_limited self.old) × (length (held_limited self.old) ≡ limit_of self.old) × (find R.Row.keyed R.Key.Key.rank (held_limited self.old) (R.Row.keyed row) ≡ None)) }
     {
-        // The row is put behind the others only where none has its key: to write over one is no more than a search.
-        match search(self.rows(), row.key()) {
-            Ok(i) => self.rows[i] = row,
-            Err(i) => {
-                let len = self.rows.len();
-                if len >= self.limit {
-                    return Err(Full);
-                }
-                self.rows.push_reserved(row);
-                open_at(self.rows.as_mut_slice(), len, i, row);
-            }
+        let len = self.rows.len();
+        let place = search(self.rows(), row.key());
+        // Room is lent only where no row has its key: to write over one is no more than a search.
+        if place.is_err() && len < self.limit {
+            self.rows.push_reserved(row);
         }
+        put_at(self.rows.as_mut_slice(), len, place, row)?;
         Ok(())
     }
 

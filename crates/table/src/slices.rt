@@ -60,7 +60,7 @@ fn shift_in<T: Copy>(part: &mut [T], row: T)
 }
 
 // Moves the rows from i on up by one place, and puts the row at i.
-pub(crate) fn open_at<T: Copy>(rows: &mut [T], len: usize, i: usize, row: T)
+fn open_at<T: Copy>(rows: &mut [T], len: usize, i: usize, row: T)
     requires { (i ≤ len) × (len < length rows.old) }
     ensures rows { rows.new ≡ laid (insert (take len rows.old) i row) rows.old }
     ensures front { take (len + 1) rows.new ≡ insert (take len rows.old) i row }
@@ -81,15 +81,21 @@ fn close_at<T: Copy>(rows: &mut [T], len: usize, i: usize) -> T
     row
 }
 
-// Puts the row in its place among the first `len`, over the one that has its key, and answers how many there are.
-pub fn insert_in<R: Row>(rows: &mut [R], len: usize, row: R) -> Result<usize, Full>
+// Puts the row at the place that a search of the first `len` found for its key, and answers how many there are.
+pub(crate) fn put_at<R: Row>(
+    rows: &mut [R],
+    len: usize,
+    place: Result<usize, usize>,
+    row: R,
+) -> Result<usize, Full>
     requires below { len ≤ length rows.old }
-    requires order { ascending R.Row.keyed R.Key.Key.rank (take len rows.old) ≡ true }
-    ensures order { ascending R.Row.keyed R.Key.Key.rank (insert_row R.Row.keyed R.Key.Key.rank (take len rows.old) row) ≡ true }
+    requires within { MatchResult place (λ i. i < len) (λ i. i ≤ len) }
+    requires there { is_some (find R.Row.keyed R.Key.Key.rank (take len rows.old) (R.Row.keyed row)) ≡ is_ok place }
+    requires put { MatchResult place (λ i. insert_row R.Row.keyed R.Key.Key.rank (take len rows.old) row ≡ slice_set (take len rows.old) i row) (λ i. insert_row R.Row.keyed R.Key.Key.rank (take len rows.old) row ≡ insert (take len rows.old) i row) }
     ensures after { (result, rows.new) ≡ entered_in R.Row.keyed R.Key.Key.rank rows.old len row }
     ensures cases { MatchResult result (λ n. (n ≤ length rows.old) × (take n rows.new ≡ insert_row R.Row.keyed R.Key.Key.rank (take len rows.old) row)) (λ _. rows.new ≡ rows.old) }
 {
-    match search(&rows[..len], row.key()) {
+    match place {
         Ok(i) => {
             write_at(rows, len, i, row);
             Ok(len)
@@ -102,6 +108,18 @@ pub fn insert_in<R: Row>(rows: &mut [R], len: usize, row: R) -> Result<usize, Fu
             Ok(len + 1)
         }
     }
+}
+
+// Puts the row in its place among the first `len`, over the one that has its key, and answers how many there are.
+pub fn insert_in<R: Row>(rows: &mut [R], len: usize, row: R) -> Result<usize, Full>
+    requires below { len ≤ length rows.old }
+    requires order { ascending R.Row.keyed R.Key.Key.rank (take len rows.old) ≡ true }
+    ensures order { ascending R.Row.keyed R.Key.Key.rank (insert_row R.Row.keyed R.Key.Key.rank (take len rows.old) row) ≡ true }
+    ensures after { (result, rows.new) ≡ entered_in R.Row.keyed R.Key.Key.rank rows.old len row }
+    ensures cases { MatchResult result (λ n. (n ≤ length rows.old) × (take n rows.new ≡ insert_row R.Row.keyed R.Key.Key.rank (take len rows.old) row)) (λ _. rows.new ≡ rows.old) }
+{
+    let place = search(&rows[..len], row.key());
+    put_at(rows, len, place, row)
 }
 
 // Takes the row with this key out of the first `len`: it then stands behind those that are kept.
